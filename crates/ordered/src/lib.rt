@@ -1,0 +1,2 @@
+// Things in an order, and tables that ascend by a key. Nothing here knows what the things are.
+pub mod order;

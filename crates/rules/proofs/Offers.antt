@@ -1,0 +1,164 @@
+-- What a lower offers and asks: ceilings, listings under the exclude layer, and remaining requirements off the main path. Assumes nothing.
+use mathlib.Core.Path.{_≡_, refl, sym, ap, _∙_, subst}
+use mathlib.Core.Bool.{Bool, true, false, cond, true≢false, _&&_}
+use mathlib.Core.List.{List, [], _∷_, _++_, map}
+use mathlib.Core.Logic.{inl, inr, ⊎-elim}
+use Prim.Native.Nat.{ℕ, _≤_}
+use lib.Dec.{ltb}
+use lib.ListN.{length}
+use native.Mathlib.Omega.{arith}
+use Rattle.std.specs.Orderings.{isLt, isLe, isEq}
+use Rattle.std.proofs.shelf.Tests.{and-parts, or-cases, ltb-false}
+use Rattle.rules.specs.Orders.{Bytes}
+use Rattle.rules.specs.Paths.{path-order}
+use Rattle.rules.specs.Versions.{version-order}
+use Rattle.rules.specs.Names.{ModuleVersion, same-path, Upto, _∈_}
+use Rattle.rules.specs.Causes.{Fault, is-missing}
+use Rattle.rules.specs.Sources.{Answer, given, refused, Meaning, at, narrowed, included}
+use Rattle.rules.specs.Projects.{State, off-main, layered, remaining}
+use Rattle.rules.specs.Walks.{Place, written, done, full, Walked, ended}
+use Rattle.rules.specs.Lists.{Is-list}
+use Rattle.rules.specs.Lowers.{lowered, ceilings, Old, Above, above, under, versions-in, offered, listed, offers, excused, Gone, lower-ask}
+use Rattle.rules.proofs.Order.{equal-from-test, not-equal-test, before-from-less, Ways, ways, before, equal, after, upto-before, upto-equal, paths, versions}
+use Rattle.rules.proofs.Turns.{written-append}
+use Rattle.rules.proofs.Members.{member-left, member-right, member-either, all-member}
+
+-- above a ceiling
+
+pub above-from-test : (cs : List ModuleVersion) (x : ModuleVersion) → above cs x ≡ true → Above cs x
+above-from-test [] x t = absurd (true≢false (sym t))
+above-from-test (c ∷ cs) x t =
+    ⊎-elim
+    (λ h. let (p, v) = and-parts (isEq (path-order (c .path) (x .path))) (isLt (version-order (c .version) (x .version))) h in
+    (c, inl refl, equal-from-test paths (c .path) (x .path) p, before-from-less versions (c .version) (x .version) v))
+    (λ h. let (d, k, p, v) = above-from-test cs x h in (d, inr k, p, v))
+    (or-cases (isEq (path-order (c .path) (x .path)) && isLt (version-order (c .version) (x .version))) (above cs x) t)
+
+-- at or under it
+pub upto-ceiling : (cs : List ModuleVersion) (x c : ModuleVersion) → (Above cs x → ⊥) → c ∈ cs → c .path ≡ x .path → Upto (x .version) (c .version)
+upto-ceiling cs x c n h p = go (ways versions (x .version) (c .version))
+  where
+    go : Ways version-order (x .version) (c .version) → Upto (x .version) (c .version)
+    go (before k) = upto-before versions (x .version) (c .version) k
+    go (equal e) = upto-equal versions (x .version) (c .version) e
+    go (after k) = absurd (n (c, h, p, k))
+
+lowered-path : (p v : Bytes) (x : ModuleVersion) → lowered p v x .path ≡ x .path
+lowered-path p v x = go (same-path x p)
+  where
+    go : (b : Bool) → cond b (at (x .path) v) x .path ≡ x .path
+    go true = refl
+    go false = refl
+
+mapped-was : (f : ModuleVersion → ModuleVersion) (xs : List ModuleVersion) (y : ModuleVersion) → y ∈ map f xs → (x : ModuleVersion) × (x ∈ xs) × (y ≡ f x)
+mapped-was f [] y h = absurd h
+mapped-was f (x ∷ xs) y (inl e) = (x, inl refl, e)
+mapped-was f (x ∷ xs) y (inr h) = let (z, k, e) = mapped-was f xs y h in (z, inr k, e)
+
+-- no ceiling is on the main path
+pub ceilings-apart : (s : State) (p v : Bytes) (l : List ModuleVersion) → Is-list s l → (c : ModuleVersion) → c ∈ ceilings p v l → c .path ≡ s .main → ⊥
+ceilings-apart s p v l (xs, e, a, apart) c h q =
+    let (x, k, f) = mapped-was (lowered p v) xs c (subst (λ z. c ∈ ceilings p v z) e h) in
+    all-member _ xs apart x k (sym (lowered-path p v x) ∙ ap (λ w. w .path) (sym f) ∙ q)
+
+-- what is offered
+
+under-was : (c : ModuleVersion) (vs : List Bytes) (x : ModuleVersion) → x ∈ under c vs → x .path ≡ c .path
+under-was c [] x h = absurd h
+under-was c (v ∷ vs) x h =
+    ⊎-elim (under-was c vs x) (go (isLe (version-order v (c .version)))) (member-either (under c vs) (cond (isLe (version-order v (c .version))) (at (c .path) v ∷ []) []) x h)
+  where
+    go : (b : Bool) → x ∈ cond b (at (c .path) v ∷ []) [] → x .path ≡ c .path
+    go true (inl e) = ap (λ w. w .path) e
+    go true (inr z) = absurd z
+    go false z = absurd z
+
+under-holds : (c : ModuleVersion) (vs : List Bytes) (v : Bytes) → v ∈ vs → Upto v (c .version) → at (c .path) v ∈ under c vs
+under-holds c [] v h u = absurd h
+under-holds c (w ∷ vs) v (inl e) u =
+    member-right (under c vs) (cond (isLe (version-order w (c .version))) (at (c .path) w ∷ []) []) (at (c .path) v)
+    (rw (sym (ap (λ z. isLe (version-order z (c .version))) e) ∙ u) (inl (ap (at (c .path)) e)))
+under-holds c (w ∷ vs) v (inr h) u = member-left (under c vs) (cond (isLe (version-order w (c .version))) (at (c .path) w ∷ []) []) (at (c .path) v) (under-holds c vs v h u)
+
+pub offered-was : (n : Meaning) (cs : List ModuleVersion) (x : ModuleVersion) → x ∈ offered n cs → Old cs x
+offered-was n [] x h = absurd h
+offered-was n (c ∷ cs) x h =
+    ⊎-elim
+    (λ k. (c, inl refl, sym (under-was c (versions-in (n .listing (c .path))) x k)))
+    (λ k. let (d, j, p) = offered-was n cs x k in (d, inr j, p))
+    (member-either (under c (versions-in (n .listing (c .path)))) (offered n cs) x h)
+
+pub offered-holds : (n : Meaning) (cs : List ModuleVersion) (c : ModuleVersion) → c ∈ cs → (vs : List Bytes) → n .listing (c .path) ≡ given vs
+    → (v : Bytes) → v ∈ vs → Upto v (c .version) → at (c .path) v ∈ offered n cs
+offered-holds n [] c h vs l v k u = absurd h
+offered-holds n (d ∷ cs) c (inl same) vs l v k u =
+    member-left (under d (versions-in (n .listing (d .path)))) (offered n cs) (at (c .path) v)
+    (subst (λ w. at (c .path) v ∈ under w (versions-in (n .listing (w .path)))) same
+    (subst (λ ws. at (c .path) v ∈ under c ws) (sym (ap versions-in l)) (under-holds c vs v k u)))
+offered-holds n (d ∷ cs) c (inr h) vs l v k u =
+    member-right (under d (versions-in (n .listing (d .path)))) (offered n cs) (at (c .path) v) (offered-holds n cs c h vs l v k u)
+
+-- every listing was given
+abbrev pub Listed : Meaning → List ModuleVersion → Type 0
+Listed n cs = (c : ModuleVersion) → c ∈ cs → (vs : List Bytes) × (n .listing (c .path) ≡ given vs)
+
+-- where the offers are done, so are all listings, and what is next started from all that is offered
+module _ (n : Meaning) (next : List Place → Walked) where
+  abbrev Offers-done : List ModuleVersion → List Place → Type 0
+  Offers-done cs sheet = length sheet ≤ 256 → offers n next cs sheet .end ≡ done
+      → Listed n cs × (length (written 0 (offered n cs) sheet) ≤ 256) × (offers n next cs sheet ≡ next (written 0 (offered n cs) sheet))
+
+  pub offers-done : (cs : List ModuleVersion) (sheet : List Place) → Offers-done cs sheet
+  offers-done [] sheet l e = (λ c h. absurd h, l, refl)
+  offers-done (c ∷ cs) sheet l e = by-answer (offers-done cs) (n .listing (c .path)) refl e
+    where
+      wrote : List Bytes → List Place
+      wrote vs = written 0 (under c vs) sheet
+
+      by-room : ((w : List Place) → Offers-done cs w) → (vs : List Bytes) → n .listing (c .path) ≡ given vs → (b : Bool) → ltb 256 (length (wrote vs)) ≡ b
+          → cond b (ended full (wrote vs)) (offers n next cs (wrote vs)) .end ≡ done
+          → Listed n (c ∷ cs) × (length (written 0 (under c vs ++ offered n cs) sheet) ≤ 256)
+          × (cond b (ended full (wrote vs)) (offers n next cs (wrote vs)) ≡ next (written 0 (under c vs ++ offered n cs) sheet))
+      by-room on vs a true t q = let z : _≡_ {A = ℕ} 0 1 = cc in absurd (omega arith)
+      by-room on vs a false t q =
+          let (ls, short, same) = on (wrote vs) (ltb-false 256 (length (wrote vs)) t) q in
+          let at-once = written-append 0 (under c vs) (offered n cs) sheet in
+          (λ d. ⊎-elim (λ e. (vs, ap (λ z. n .listing (z .path)) e ∙ a)) (ls d), rw at-once short, same ∙ ap next (sym at-once))
+
+      by-answer : ((w : List Place) → Offers-done cs w) → (a : Answer (List Bytes)) → n .listing (c .path) ≡ a → listed (offers n next cs) c sheet a .end ≡ done
+          → Listed n (c ∷ cs) × (length (written 0 (under c (versions-in a) ++ offered n cs) sheet) ≤ 256)
+          × (listed (offers n next cs) c sheet a ≡ next (written 0 (under c (versions-in a) ++ offered n cs) sheet))
+      by-answer on (refused f) a q = let z : _≡_ {A = ℕ} 0 1 = cc in absurd (omega arith)
+      by-answer on (given vs) a q = by-room on vs a (ltb 256 (length (wrote vs))) refl q
+
+-- remaining requirements
+
+module _ (m : Meaning) (s : State) where
+  pub remaining-apart : (x : ModuleVersion) → (x .path ≡ s .main → ⊥) → remaining m s x ≡ narrowed (off-main s) (layered m s .requirements x)
+  remaining-apart x n = rw (not-equal-test paths (x .path) (s .main) n)
+
+  pub available-not-refused : (x : ModuleVersion) (xs : List ModuleVersion) (f : Fault) → layered m s .requirements x ≡ given xs → remaining m s x ≡ refused f → ⊥
+  available-not-refused x xs f e q = go (same-path x (s .main)) q
+    where
+      go : (b : Bool) → narrowed (off-main s) (cond b (given (included (s .exclusions) (s .rows))) (layered m s .requirements x)) ≡ refused f → ⊥
+      go true r = let z : _≡_ {A = ℕ} 0 1 = cc in omega arith
+      go false r =
+          let g : narrowed (off-main s) (layered m s .requirements x) ≡ given (off-main s xs) = ap (narrowed (off-main s)) e in
+          let z : _≡_ {A = ℕ} 0 1 = cc in
+          omega arith
+
+  -- what lower's walk was answered, where the row is neither above its ceiling nor gone
+  pub lower-given : (cs : List ModuleVersion) (x : ModuleVersion) (ys : List ModuleVersion) → (Above cs x → ⊥) → (Gone m s x → ⊥) → lower-ask m s cs x ≡ given ys → remaining m s x ≡ given ys
+  lower-given cs x ys low there e = unbarred (above cs x) refl e
+    where
+      excuse : (f : Fault) → remaining m s x ≡ refused f → (b : Bool) → is-missing (f .cause) ≡ b → cond b (given []) (refused f) ≡ given ys → remaining m s x ≡ given ys
+      excuse f r true t q = absurd (there (f, r, t))
+      excuse f r false t q = let z : _≡_ {A = ℕ} 0 1 = cc in absurd (omega arith)
+
+      answer : (a : Answer (List ModuleVersion)) → remaining m s x ≡ a → excused a ≡ given ys → remaining m s x ≡ given ys
+      answer (given xs) r q = r ∙ q
+      answer (refused f) r q = excuse f r (is-missing (f .cause)) refl q
+
+      unbarred : (b : Bool) → above cs x ≡ b → cond b (given []) (excused (remaining m s x)) ≡ given ys → remaining m s x ≡ given ys
+      unbarred true t q = absurd (low (above-from-test cs x t))
+      unbarred false t q = answer (remaining m s x) refl q

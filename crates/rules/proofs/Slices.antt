@@ -1,0 +1,87 @@
+-- What a list leaves in its slices: there is room for it, and the sheet's places stand there. Assumes nothing.
+use mathlib.Core.Path.{_≡_, refl}
+use mathlib.Core.Bool.{true, not}
+use mathlib.Core.List.{List, [], _∷_}
+use mathlib.Core.Logic.{inl, inr}
+use Prim.Native.Nat.{ℕ, zero, suc, _≤_, _-_}
+use native.Mathlib.Omega.{arith}
+use lib.Dec.{leb}
+use lib.ListN.{length, take, replicate, length-take, length-append, length-replicate}
+use Rattle.std.specs.Finite.{nth}
+use Rattle.std.specs.declared.option.Option.the-variants.{Some}
+use Rattle.std.proofs.shelf.Lists.{take-all}
+use Rattle.std.proofs.shelf.Tests.{and-parts, leb-true}
+use Rattle.rules.specs.Names.{ModuleVersion, same-path, _∈_, Distinct}
+use Rattle.rules.specs.Sources.{Meaning}
+use Rattle.rules.specs.Projects.{State, main-row, off-main, remaining}
+use Rattle.rules.specs.Walks.{Place, module-versions, done, full, list-walk}
+use Rattle.rules.specs.Lists.{table, list-of, Ascending}
+use Rattle.rules.specs.Slices.{blank-place, Lent, wide, filled}
+use Rattle.rules.proofs.Order.{before-not-equal, paths}
+use Rattle.rules.proofs.Members.{all-member, kept-was, distinct-length}
+use Rattle.rules.proofs.Tables.{table-was, table-ascending}
+use Rattle.rules.proofs.Walks.{run-room, run-full, run-grows, nth-left}
+use Rattle.rules.proofs.Reached.{off-main-apart, list-run}
+use Rattle.rules.proofs.Faults.{length-module-versions}
+
+pub filled-length : {A : Type 0} (none : A) (n : ℕ) (xs : List A) → length xs ≤ n → length (filled none n xs) ≡ n
+filled-length none n xs h = omega (arith, length-append xs (replicate (n - length xs) none), length-replicate (n - length xs) none)
+
+pub short-256 : (sheet : List Place) → length (take 256 sheet) ≤ 256
+short-256 sheet = omega (arith, length-take 256 sheet)
+
+pub first-was : (n : ℕ) (sheet : List Place) (x : ModuleVersion) → x ∈ module-versions (take n sheet) → x ∈ module-versions sheet
+first-was zero sheet x h = absurd h
+first-was (suc n) [] x h = absurd h
+first-was (suc n) (r ∷ rs) x (inl e) = inl e
+first-was (suc n) (r ∷ rs) x (inr h) = inr (first-was n rs x h)
+
+pub first-distinct : (n : ℕ) (sheet : List Place) → Distinct (module-versions sheet) → Distinct (module-versions (take n sheet))
+first-distinct zero sheet d = tt
+first-distinct (suc n) [] d = tt
+first-distinct (suc n) (r ∷ rs) d = (λ h. d .0 (first-was n rs (r .of) h), first-distinct n rs (d .1))
+
+pub wide-sheet : (n : Lent) → wide n ≡ true → 256 ≤ n .sheet
+wide-sheet n w = leb-true 256 (n .sheet) (and-parts (leb 256 (n .sheet)) (leb 256 (n .list)) w .0)
+
+pub wide-list : (n : Lent) → wide n ≡ true → 256 ≤ n .list
+wide-list n w = leb-true 256 (n .list) (and-parts (leb 256 (n .sheet)) (leb 256 (n .list)) w .1)
+
+pub ascending-distinct : (xs : List ModuleVersion) → Ascending xs → Distinct xs
+ascending-distinct [] a = tt
+ascending-distinct (x ∷ xs) a = (λ h. before-not-equal paths (x .path) (x .path) (all-member _ xs (a .0) x h) refl, ascending-distinct xs (a .1))
+
+module _ (m : Meaning) (s : State) where
+  pub sheet-room : (list-walk m s .end ≡ full → ⊥) → length (list-walk m s .sheet) ≤ 256
+  sheet-room = run-room (remaining m s) (list-run m s) (omega arith)
+
+  pub full-256 : list-walk m s .end ≡ full → length (take 256 (list-walk m s .sheet)) ≡ 256
+  full-256 e = omega (arith, length-take 256 (list-walk m s .sheet), run-full (remaining m s) (list-run m s) e)
+
+  -- each row of the list is on the sheet, and none twice
+  pub list-room : list-walk m s .end ≡ done → length (list-of s (list-walk m s .sheet)) ≤ 256
+  list-room ok = omega (arith, distinct-length (main-row s ∷ rows) (module-versions (list-walk m s .sheet)) apart on, length-module-versions (list-walk m s .sheet), short)
+    where
+      rows : List ModuleVersion
+      rows = table (off-main s (module-versions (list-walk m s .sheet)))
+
+      short : length (list-walk m s .sheet) ≤ 256
+      short = sheet-room (λ e. let z : _≡_ {A = ℕ} 0 1 = cc in omega arith)
+
+      sheet-row : (x : ModuleVersion) → x ∈ rows → (x ∈ module-versions (list-walk m s .sheet)) × (not (same-path x (s .main)) ≡ true)
+      sheet-row x h = kept-was (λ y. not (same-path y (s .main))) (module-versions (list-walk m s .sheet)) x (table-was (off-main s (module-versions (list-walk m s .sheet))) x h)
+
+      apart : Distinct (main-row s ∷ rows)
+      apart =
+          (λ h. off-main-apart s (main-row s) (sheet-row (main-row s) h .1) refl, ascending-distinct rows (table-ascending (off-main s (module-versions (list-walk m s .sheet)))))
+
+      on : (x : ModuleVersion) → x ∈ (main-row s ∷ rows) → x ∈ module-versions (list-walk m s .sheet)
+      on x (inl e) = rw e (run-grows (remaining m s) (list-run m s) (main-row s) (inl refl))
+      on x (inr h) = sheet-row x h .0
+
+  -- the slice has the sheet's places
+  pub on-slice : (n : ℕ) → (list-walk m s .end ≡ full → ⊥) → (i : ℕ) (r : Place) → nth (list-walk m s .sheet) i ≡ Some r
+      → nth (filled blank-place n (take 256 (list-walk m s .sheet))) i ≡ Some r
+  on-slice n room i r e =
+      nth-left (take 256 (list-walk m s .sheet)) (replicate (n - length (take 256 (list-walk m s .sheet))) blank-place) i r
+      (rw (take-all 256 (list-walk m s .sheet) (sheet-room room)) e)

@@ -1,0 +1,59 @@
+-- Why a question or a call is refused. Assumes nothing.
+use mathlib.Core.Bool.{Bool}
+use Prim.Native.Nat.{ℕ}
+use lib.Dec.{eqb}
+
+pub data Cause : Type 0 where
+  -- of a text
+  too-long : Cause
+  bad-byte : Cause
+  wrong-shape : Cause
+  bad-path : Cause
+  bad-version : Cause
+  -- a second module line, or none
+  module-line : Cause
+  row-too-many : Cause
+  -- of a source: there is no such manifest
+  absent : Cause
+  damaged-buffer : Cause
+  too-many-to-list : Cause
+  -- of a call
+  slice-too-short : Cause
+  -- a 257th place is needed
+  too-many-module-versions : Cause
+  table-full : Cause
+  nothing-to-change : Cause
+
+-- the number that a cause is told by
+abbrev pub number : Cause → ℕ
+number too-long = 1
+number bad-byte = 2
+number wrong-shape = 3
+number bad-path = 4
+number bad-version = 5
+number module-line = 6
+number row-too-many = 7
+number absent = 8
+number damaged-buffer = 9
+number too-many-to-list = 10
+number slice-too-short = 11
+number too-many-module-versions = 12
+number table-full = 13
+number nothing-to-change = 14
+
+-- the causes that say that a module version is missing: a fallback then asks its other source, and lower goes on
+abbrev pub is-missing : Cause → Bool
+is-missing c = eqb (number c) (number absent)
+
+-- why a source refuses an answer: the cause, the place it speaks of, and how many layers down it arose
+pub record Fault : Type 0 where
+  pub cause : Cause
+  pub place : ℕ
+  pub depth : ℕ
+
+-- why a call is refused: the same, and the place of the sheet that was questioned; zero where nothing is named
+pub record Refusal : Type 0 where
+  pub cause : Cause
+  pub place : ℕ
+  pub depth : ℕ
+  pub sheet-place : ℕ

@@ -1,0 +1,40 @@
+-- When a list is refused, and what the refusal shows. Assumes nothing.
+use mathlib.Core.Path.{_≡_}
+use mathlib.Core.List.{List, _∷_}
+use mathlib.Core.Logic.{_↔_, _⊎_}
+use Prim.Native.Nat.{ℕ, suc}
+use Rattle.rules.specs.Names.{ModuleVersion}
+use Rattle.rules.specs.Causes.{Fault}
+use Rattle.rules.specs.Sources.{Meaning, refused}
+use Rattle.rules.specs.Projects.{State, Reached, Chain, Few, Without-list, remaining}
+use Rattle.rules.specs.Walks.{Place, done, stopped, list-walk, trail}
+
+module _ (m : Meaning) (s : State) where
+  -- the walk ended in a fault
+  abbrev pub Stopped : Type 0
+  Stopped = (p : ℕ) × (f : Fault) × (list-walk m s .end ≡ stopped p f)
+
+  -- some module version that is reached, the main one apart, has no requirement list
+  abbrev pub Broken : Type 0
+  Broken = (x : ModuleVersion) × Reached m s x × (x .path ≡ s .main → ⊥) × Without-list m s x
+
+  -- What a refusal shows on a sheet: at its place stands a module version with just that fault, and the from numbers lead back from there
+  -- along a chain from the main module.
+  abbrev pub Shown-on : List Place → ℕ → Fault → Type 0
+  Shown-on sheet p f = (x : ModuleVersion) × (xs : List ModuleVersion)
+      × (trail (suc p) sheet p ≡ x ∷ xs)
+      × Chain m s (x ∷ xs)
+      × (remaining m s x ≡ refused f)
+      × (x .path ≡ s .main → ⊥)
+
+  abbrev pub Shown : ℕ → Fault → Type 0
+  Shown = Shown-on (list-walk m s .sheet)
+
+  -- THE REFUSAL: while at most 256 module versions are reached, the walk ends, done or in a fault, and in a fault exactly when some
+  -- reached one has no requirement list; and the fault is shown
+  abbrev pub Refusal-right-at : Type 0
+  Refusal-right-at = (Few m s → ((list-walk m s .end ≡ done) ⊎ Stopped) × (Stopped ↔ Broken))
+      × ((p : ℕ) (f : Fault) → list-walk m s .end ≡ stopped p f → Shown p f)
+
+abbrev pub Refusal-right : Type 0
+Refusal-right = (m : Meaning) (s : State) → Refusal-right-at m s

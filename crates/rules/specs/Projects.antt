@@ -1,0 +1,59 @@
+-- A project's state, the remaining requirements of a module version, and what is reached from the main module. Assumes nothing.
+use mathlib.Core.Path.{_≡_}
+use mathlib.Core.Bool.{cond, not}
+use mathlib.Core.List.{List, [], _∷_}
+use Prim.Native.Nat.{_≤_, _<_}
+use lib.Chars.{codes}
+use lib.ListN.{length}
+use Rattle.std.specs.shelf.Lists.{kept-by}
+use Rattle.rules.specs.Orders.{Bytes}
+use Rattle.rules.specs.Names.{ModuleVersion, same-path, _∈_, Distinct}
+use Rattle.rules.specs.Causes.{Fault}
+use Rattle.rules.specs.Sources.{Answer, given, refused, Meaning, excluding, included, narrowed}
+
+pub record State : Type 0 where
+  pub main : Bytes
+  -- one a path, ascending
+  pub rows : List ModuleVersion
+  pub exclusions : List ModuleVersion
+
+abbrev pub main-row : State → ModuleVersion
+main-row s = record { path = s .main; version = codes "v0.0.0" }
+
+-- those on other paths than the main one
+abbrev pub off-main : State → List ModuleVersion → List ModuleVersion
+off-main s = kept-by (λ y. not (same-path y (s .main)))
+
+-- the meaning below the project: the pile of sources under the exclude layer
+abbrev pub layered : Meaning → State → Meaning
+layered m s = excluding (s .exclusions) m
+
+module _ (m : Meaning) (s : State) where
+  -- the remaining requirements: of the main module its rows that are not excluded, of another the list that the exclude layer
+  -- gives; both without rows on the main path
+  abbrev pub remaining : ModuleVersion → Answer (List ModuleVersion)
+  remaining x = narrowed (off-main s) (cond (same-path x (s .main)) (given (included (s .exclusions) (s .rows))) (layered m s .requirements x))
+
+  -- y is a remaining requirement of x
+  abbrev pub Requires : ModuleVersion → ModuleVersion → Type 0
+  Requires x y = (ys : List ModuleVersion) × (remaining x ≡ given ys) × (y ∈ ys)
+
+  abbrev pub Without-list : ModuleVersion → Type 0
+  Without-list x = (f : Fault) × (remaining x ≡ refused f)
+
+  -- A chain, its last member first: it starts at the main module, and each later member is a remaining requirement of the one before.
+  pub data Chain : List ModuleVersion → Type 0 where
+    start : Chain (main-row s ∷ [])
+    onward : {x y : ModuleVersion} {xs : List ModuleVersion} → Chain (x ∷ xs) → Requires x y → Chain (y ∷ x ∷ xs)
+
+  -- a chain leads to x
+  abbrev pub Reached : ModuleVersion → Type 0
+  Reached x = (xs : List ModuleVersion) × Chain (x ∷ xs)
+
+  -- at most 256 module versions are reached: a list of so many holds them all
+  abbrev pub Few : Type 0
+  Few = (xs : List ModuleVersion) × (length xs ≤ 256) × ((x : ModuleVersion) → Reached x → x ∈ xs)
+
+  -- more than 256 are
+  abbrev pub Many : Type 0
+  Many = (xs : List ModuleVersion) × (256 < length xs) × Distinct xs × ((x : ModuleVersion) → x ∈ xs → Reached x)

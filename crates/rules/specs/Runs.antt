@@ -1,0 +1,134 @@
+-- Runs of calls, and the law over all of them. Assumes nothing.
+use mathlib.Core.Path.{_≡_}
+use mathlib.Core.Bool.{true}
+use mathlib.Core.List.{List, [], _∷_}
+use mathlib.Core.Logic.{_↔_, _⊎_}
+use Prim.Native.Nat.{ℕ, _≤_}
+use lib.Chars.{codes}
+use lib.ListN.{length}
+use Rattle.std.specs.shelf.Lists.{All}
+use Rattle.std.specs.declared.cmp.Ordering.the-variants.{Less}
+use Rattle.rules.specs.Orders.{Bytes}
+use Rattle.rules.specs.Names.{ModuleVersion, Below, module-order, _∈_, Distinct}
+use Rattle.rules.specs.Causes.{too-many-module-versions, nothing-to-change, Refusal, Fault}
+use Rattle.rules.specs.Sources.{Meaning, Lawful}
+use Rattle.rules.specs.Projects.{State, Reached, Few, Many}
+use Rattle.rules.specs.Walks.{Place, module-versions}
+use Rattle.rules.specs.Lists.{Ascending, Is-list, Least-fit}
+use Rattle.rules.specs.Faults.{Broken, Shown-on}
+use Rattle.rules.specs.Lowers.{behind, ceilings, Old, with-rows, Kept-right-at}
+use Rattle.rules.specs.Slices.{blank, blank-place, Lent, wide, filled}
+use Rattle.rules.specs.Calls.{manifest, unread, Call, load, raise, drop, exclude, lower, list, counted, refused-for, Outcome, plainly, does}
+
+abbrev pub fresh : State
+fresh = record { main = codes "_"; rows = []; exclusions = [] }
+
+-- the state after some calls, in order
+abbrev pub after : Meaning → State → List Call → State
+after m s [] = s
+after m s (c ∷ cs) = after m (does m s c .state) cs
+
+-- what a call does after some calls
+abbrev pub outcome : Meaning → List Call → Call → Outcome
+outcome m calls c = does m (after m fresh calls) c
+
+-- The call is accepted, the list slice holds just l and then blanks, and the answer tells how many rows l has.
+abbrev pub Gives : Outcome → Lent → List ModuleVersion → Type 0
+Gives o n l = ((places : ℕ) × (o .reply ≡ counted places (length l))) × (o .slices .list ≡ filled blank (n .list) l)
+
+abbrev pub Given : Outcome → Type 0
+Given o = (places rows : ℕ) × (o .reply ≡ counted places rows)
+
+abbrev pub Refused : Outcome → Type 0
+Refused o = (r : Refusal) × (o .reply ≡ refused-for r)
+
+abbrev pub fault-of : Refusal → Fault
+fault-of r = record { cause = r .cause; place = r .place; depth = r .depth }
+
+module _ (m : Meaning) (s : State) where
+  -- l is a list, and the only one that is fit and nowhere above any fit list
+  abbrev pub Least : List ModuleVersion → Type 0
+  Least l = Is-list s l × ((k : List ModuleVersion) → Is-list s k → (k ≡ l) ↔ Least-fit m s k)
+
+  -- A list is given or refused, and refused exactly when some module version that is reached, the main one apart, has no requirement
+  -- list; and the refusal shows such a one at its sheet place.
+  abbrev pub Deserved : Outcome → Type 0
+  Deserved o = (Given o ⊎ Refused o) × (Refused o ↔ Broken m s)
+      × ((r : Refusal) → o .reply ≡ refused-for r → Shown-on m s (o .slices .sheet) (r .sheet-place) (fault-of r))
+
+  -- more than 256 are reached, and 256 of them, none twice, are on the sheet slice
+  abbrev pub Overfull : Lent → Outcome → Type 0
+  Overfull n o = Many m s × ((sheet : List Place) × (length sheet ≡ 256) × (o .slices .sheet ≡ filled blank-place (n .sheet) sheet)
+      × Distinct (module-versions sheet) × ((x : ModuleVersion) → x ∈ module-versions sheet → Reached m s x))
+
+  -- what an accepted lower of the path p to the version v is worth
+  pub record Lowered (p v : Bytes) (n : Lent) (o : Outcome) : Type 0 where
+    -- the list that it started from is on the list slice
+    pub old : List ModuleVersion
+    pub given : Gives o n old
+    pub least : Least old
+    -- of the state only the rows are changed
+    pub state : o .state ≡ with-rows s (o .state .rows)
+    -- the rows are the highest that can stand together under the ceilings
+    pub kept : Kept-right-at m s (ceilings p v old) (o .state .rows)
+    -- a list taken right then, in slices long enough, is given, and on the old paths shows exactly the rows
+    pub relisted : (k : Lent) → wide k ≡ true → (l : List ModuleVersion) × Gives (does m (o .state) (list k)) k l
+        × ((x : ModuleVersion) → Old (ceilings p v old) x → x ∈ l ↔ x ∈ o .state .rows)
+
+  pub record Right : Type 0 where
+    -- a call that is refused leaves the state as it was
+    pub refuses : (c : Call) → Refused (does m s c) → does m s c .state ≡ s
+    -- a list that is given is the least
+    pub least : (n : Lent) → Given (does m s (list n)) → (l : List ModuleVersion) × Gives (does m s (list n)) n l × Least l
+    -- and the sheet slice holds just what is reached, and then blanks
+    pub reaches : (n : Lent) (places rows : ℕ) → does m s (list n) .reply ≡ counted places rows → (sheet : List Place) × (places ≡ length sheet)
+        × (does m s (list n) .slices .sheet ≡ filled blank-place (n .sheet) sheet) × ((x : ModuleVersion) → x ∈ module-versions sheet ↔ Reached m s x)
+    -- a refusal in slices long enough shows why: by a module version that has no requirement list, or by there being more than 256
+    pub explains : (n : Lent) → wide n ≡ true → (r : Refusal) → does m s (list n) .reply ≡ refused-for r
+        → Shown-on m s (does m s (list n) .slices .sheet) (r .sheet-place) (fault-of r) ⊎ ((r ≡ plainly too-many-module-versions) × Overfull n (does m s (list n)))
+    -- while at most 256 are reached, in slices long enough, a refusal is deserved
+    pub deserved : (n : Lent) → wide n ≡ true → Few m s → Deserved (does m s (list n))
+    -- where a list is refused, a lower does just what the list does
+    pub lists-first : (p v : Bytes) (n : Lent) → Refused (does m s (list n)) → does m s (lower p v n) ≡ does m s (list n)
+    -- where a list is given that has the path nowhere above the version, behind the main row, there is nothing to lower, and the slices
+    -- are as the list leaves them
+    pub idle : (p v : Bytes) (n : Lent) → Given (does m s (list n)) → (l : List ModuleVersion) × Gives (does m s (list n)) n l
+        × (((x : ModuleVersion) → x ∈ behind l → x .path ≡ p → Below v (x .version) → ⊥)
+        → (does m s (lower p v n) .reply ≡ refused-for (plainly nothing-to-change)) × (does m s (lower p v n) .slices ≡ does m s (list n) .slices))
+    -- what an accepted lower leaves is kept rightly
+    pub lowers : (p v : Bytes) (n : Lent) → Given (does m s (lower p v n)) → Lowered p v n (does m s (lower p v n))
+    -- slices stay as long as they are, and a list changes no state
+    pub lengths : (n : Lent) → (length (does m s (list n) .slices .sheet) ≡ n .sheet) × (length (does m s (list n) .slices .list) ≡ n .list)
+    pub lower-lengths : (p v : Bytes) (n : Lent) → (length (does m s (lower p v n) .slices .sheet) ≡ n .sheet) × (length (does m s (lower p v n) .slices .list) ≡ n .list)
+    pub looks : (n : Lent) → does m s (list n) .state ≡ s
+
+-- THE RUNS: over every lawful meaning, so it is after every run of calls from the fresh state
+abbrev pub Runs-right : Type 0
+Runs-right = (m : Meaning) → Lawful m → (calls : List Call) → Right m (after m fresh calls)
+
+-- The tables.
+
+-- each module version once, ascending
+abbrev pub In-order : List ModuleVersion → Type 0
+In-order [] = Unit {0}
+In-order (x ∷ xs) = All (λ y. module-order x y ≡ Less) xs × In-order xs
+
+pub record Tidy (s : State) : Type 0 where
+  pub ascending : Ascending (s .rows)
+  pub in-order : In-order (s .exclusions)
+  pub few-rows : length (s .rows) ≤ 256
+  pub few-exclusions : length (s .exclusions) ≤ 32
+
+-- a manifest that was read has no more rows than the tables have room for
+abbrev pub In-bounds : Call → Type 0
+In-bounds (load (manifest t)) = (length (t .requires) ≤ 256) × (length (t .excludes) ≤ 32)
+In-bounds (load (unread c k)) = Unit {0}
+In-bounds (raise x) = Unit {0}
+In-bounds (drop p) = Unit {0}
+In-bounds (exclude x) = Unit {0}
+In-bounds (lower p v n) = Unit {0}
+In-bounds (list n) = Unit {0}
+
+-- THE TABLES: after every run whose manifests are in bounds, both tables are ascending and in bounds
+abbrev pub Tables-right : Type 0
+Tables-right = (m : Meaning) (calls : List Call) → All In-bounds calls → Tidy (after m fresh calls)

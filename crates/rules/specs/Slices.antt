@@ -1,0 +1,38 @@
+-- The slices that a call is lent, and what they hold after it. Assumes nothing.
+use mathlib.Core.Bool.{Bool, _&&_}
+use mathlib.Core.List.{List, _++_}
+use Prim.Native.Nat.{ℕ, _-_}
+use lib.Chars.{codes}
+use lib.Dec.{leb}
+use lib.ListN.{length, take, replicate}
+use Rattle.rules.specs.Names.{ModuleVersion}
+use Rattle.rules.specs.Walks.{Place}
+
+-- the blank row, and the blank place of a sheet
+abbrev pub blank : ModuleVersion
+blank = record { path = codes "_"; version = codes "v0.0.0" }
+
+abbrev pub blank-place : Place
+blank-place = record { of = blank; from = 0 }
+
+-- how long the two slices are
+pub record Lent : Type 0 where
+  pub sheet : ℕ
+  pub list : ℕ
+
+-- both have 256 places at least
+abbrev pub wide : Lent → Bool
+wide n = leb 256 (n .sheet) && leb 256 (n .list)
+
+-- what the two slices hold
+pub record Slices : Type 0 where
+  pub sheet : List Place
+  pub list : List ModuleVersion
+
+-- a slice of n places that holds xs, and then blanks
+abbrev pub filled : {A : Type 0} → A → ℕ → List A → List A
+filled none n xs = xs ++ replicate (n - length xs) none
+
+-- of a sheet that would be longer, the first 256 places are written
+abbrev pub holding : Lent → List Place → List ModuleVersion → Slices
+holding n sheet list = record { sheet = filled blank-place (n .sheet) (take 256 sheet); list = filled blank (n .list) list }
