@@ -1,0 +1,4 @@
+pub mod Canon
+pub mod Pulled
+pub mod Words
+pub mod Scanned

@@ -1,0 +1,5 @@
+pub mod Checks
+pub mod Padding
+pub mod Texts
+pub mod Paths
+pub mod Scans

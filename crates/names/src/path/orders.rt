@@ -1,0 +1,14 @@
+// The order of paths.
+ghost use Rattle.names.specs.Paths.{plain-path-order};
+use crate::bytes::compare_bytes;
+use ordered::order::Ordered;
+use std::cmp::Ordering;
+use super::PlainPath;
+
+pub impl Ordered for PlainPath as PlainPathOrdered {
+    ghost order = { plain-path-order };
+
+    fn compare(&self, other: &PlainPath) -> Ordering {
+        compare_bytes(self.text.as_bytes(), other.text.as_bytes())
+    }
+}
