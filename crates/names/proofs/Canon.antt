@@ -11,9 +11,12 @@ use Rattle.std.proofs.shelf.Tests.{cases-lt}
 use Rattle.names.specs.Padding.{Padded}
 use Rattle.names.specs.Texts.{text-bytes}
 use Rattle.names.specs.contracts.text.Text.{struct, the-ghost, the-propositions}
+use Rattle.names.specs.contracts.path.PlainPath.{the-row as plain-row}
+use Rattle.names.specs.contracts.path.Path.{struct as path-struct, the-ghost as path-ghost, the-propositions as path-propositions}
 use Rattle.names.specs.declared.text.Text.{Text}
-use Rattle.names.specs.Paths.{plain-path-bytes}
+use Rattle.names.specs.Paths.{plain-path-bytes, path-bytes}
 use Rattle.names.specs.declared.path.PlainPath.{PlainPath}
+use Rattle.names.specs.declared.path.Path.{Path}
 
 same-len : (n : ℕ) (a b : List ℕ) (i j : ℕ) → Padded n a i → Padded n b j → take i a ≡ take j b → i ≡ j
 same-len n a b i j p q e =
@@ -38,3 +41,8 @@ same-text p q e =
 
 pub same-plain-path : (p q : PlainPath) → plain-path-bytes p ≡ plain-path-bytes q → p ≡ q
 same-plain-path p q e i = record { text = same-text (p .text) (q .text) e i }
+
+pub same-path : (p q : Path) → path-bytes p ≡ path-bytes q → p ≡ q
+same-path p q e =
+    let f : p .plain ≡ q .plain = same-plain-path (p .plain) (q .plain) e in
+    λ i. path-struct .make (f i, tt) (isProp→PathP (λ j. path-ghost (f j, tt)) (λ j. path-propositions (plain-row .coded) (f j, tt)) (path-struct .ghosts p) (path-struct .ghosts q) i)

@@ -14,3 +14,6 @@ path-bytes p = plain-path-bytes (p .plain)
 
 abbrev pub plain-path-order : PlainPath → PlainPath → Ordering
 plain-path-order p q = path-order (plain-path-bytes p) (plain-path-bytes q)
+
+abbrev pub path-value-order : Path → Path → Ordering
+path-value-order p q = plain-path-order (p .plain) (q .plain)

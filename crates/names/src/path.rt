@@ -6,16 +6,17 @@ ghost use Rattle.rules.specs.Paths.{is-path};
 ghost use Rattle.names.specs.Texts.{text-bytes};
 use crate::text::Text;
 use crate::text::TextDebug;
+use crate::text::uses::TextPartialEq;
 
 pub mod checks;
 pub mod orders;
 
-#[derive(Clone, Copy, Debug)]
+#[derive(Clone, Copy, PartialEq, Eq, Debug)]
 pub struct PlainPath {
     pub text: Text,
 }
 
-#[derive(Clone, Copy, Debug)]
+#[derive(Clone, Copy, PartialEq, Eq, Debug)]
 pub struct Path {
     plain: PlainPath,
     ghost ok: { is-path (text-bytes (plain .text)) ≡ true },
