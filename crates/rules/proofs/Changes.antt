@@ -27,8 +27,8 @@ use Rattle.rules.specs.Runs.{after, fresh}
 use Rattle.rules.specs.Changes.{No-row, Accepted, Refused-with, Changes, Changes-right}
 use Rattle.rules.proofs.Order.{then-equal, apart-from-test, not-equal-test, order-equal, upto-refl, paths, versions}
 use Rattle.rules.proofs.Members.{module-same, member-from-has, no-member-from-has, kept-member, kept-was}
-use Rattle.rules.proofs.Tables.{entered-was, entered-stands, entered-ascending, one-a-path, table-was, table-stands}
-use Rattle.rules.proofs.Tidy.{row-there, put-was, tables-right}
+use Rattle.rules.proofs.Rows.{entered-was, entered-stands, entered-ascending, one-a-path, table-was, table-stands}
+use Rattle.rules.proofs.Tidy.{row-there, put-was, tidy-right}
 
 -- rows
 
@@ -222,4 +222,4 @@ changes m s a = record {
 }
 
 pub changes-right : Changes-right
-changes-right m calls b = changes m (after m fresh calls) (tables-right m calls b .ascending)
+changes-right m calls b = changes m (after m fresh calls) (tidy-right m calls b .ascending)

@@ -11,7 +11,7 @@ use Rattle.rules.specs.Walks.{Place, module-versions, done, list-walk}
 use Rattle.rules.specs.Lists.{table, list-of, Is-list, Fit, Nowhere-above, Least-fit, List-right-at, List-right}
 use Rattle.rules.proofs.Members.{kept-member, kept-was, all-member, all-from-members}
 use Rattle.rules.proofs.Order.{not-equal-test, paths}
-use Rattle.rules.proofs.Tables.{stands-member, table-was, table-stands, table-ascending, tables-same}
+use Rattle.rules.proofs.Rows.{stands-member, table-was, table-stands, table-ascending, tables-same}
 use Rattle.rules.proofs.Reached.{off-main-apart, reached-main, main-or-apart, sheet-reached, reached-sheet}
 
 pub stands-further : (w x : ModuleVersion) (ys : List ModuleVersion) → Stands x ys → Stands x (w ∷ ys)

@@ -15,7 +15,7 @@ use Rattle.rules.specs.Faults.{Broken}
 use Rattle.rules.specs.Lowers.{Old, offered, lower-walk, barred, kept-rows, Kept, Leads, itself, through, Allowed, Fits, ceilings-at, Sound, with-rows, Kept-right-at, Relisted, Lower-right}
 use Rattle.rules.proofs.Order.{upto-antisym, not-equal-test, paths, versions}
 use Rattle.rules.proofs.Members.{module-same, member-from-has, has-from-member}
-use Rattle.rules.proofs.Tables.{one-a-path, table-ascending}
+use Rattle.rules.proofs.Rows.{one-a-path, table-ascending}
 use Rattle.rules.proofs.Reached.{off-main-apart, main-requires, required-by-main, required-apart, reached-all, reached-main, reached-on}
 use Rattle.rules.proofs.Lists.{is-list, list-fit, shown-reached}
 use Rattle.rules.proofs.Faults.{refusal-right-at, length-module-versions}

@@ -20,7 +20,7 @@ use Rattle.rules.specs.Lists.{table}
 use Rattle.rules.specs.Lowers.{some, is-gone, list-in, Above, above, Gone, Leads, itself, through, Allowed, Kept, old-list, ceilings-at, offered, lower-walk, bad, barred, kept-rows, Kept-meant}
 use Rattle.rules.proofs.Order.{test-from-equal, paths}
 use Rattle.rules.proofs.Members.{kept-member, kept-was}
-use Rattle.rules.proofs.Tables.{table-was, table-stands, table-ascending, tables-same}
+use Rattle.rules.proofs.Rows.{table-was, table-stands, table-ascending, tables-same}
 use Rattle.rules.proofs.Reached.{required-apart}
 use Rattle.rules.proofs.Lists.{is-list}
 use Rattle.rules.proofs.Faults.{length-module-versions}

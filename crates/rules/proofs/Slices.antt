@@ -19,7 +19,7 @@ use Rattle.rules.specs.Lists.{table, list-of, Ascending}
 use Rattle.rules.specs.Slices.{blank-place, Lent, wide, filled}
 use Rattle.rules.proofs.Order.{before-not-equal, paths}
 use Rattle.rules.proofs.Members.{all-member, kept-was, distinct-length}
-use Rattle.rules.proofs.Tables.{table-was, table-ascending}
+use Rattle.rules.proofs.Rows.{table-was, table-ascending}
 use Rattle.rules.proofs.Walks.{run-room, run-full, run-grows, nth-left}
 use Rattle.rules.proofs.Reached.{off-main-apart, list-run}
 use Rattle.rules.proofs.Faults.{length-module-versions}

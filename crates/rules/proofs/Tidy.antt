@@ -27,10 +27,10 @@ use Rattle.rules.specs.Lists.{entered-by, entered, tabled, Ascending}
 use Rattle.rules.specs.Lowers.{can-lower, with-rows, lower-walk, kept-rows, old-list, ceilings-at}
 use Rattle.rules.specs.Slices.{Lent, wide, holding}
 use Rattle.rules.specs.Calls.{manifest, unread, Call, load, raise, drop, exclude, lower, list, refused-for, Outcome, plainly, refuses, unless, put-by, put, put-all, with-exclusions, row-of, raised, dropped, excluded, if-done, if-wide, listing, nothing-lower, lowering, lowers, does}
-use Rattle.rules.specs.Runs.{after, fresh, In-order, Tidy, In-bounds, Tables-right}
+use Rattle.rules.specs.Runs.{after, fresh, In-order, Tidy, In-bounds, Tidy-right}
 use Rattle.rules.proofs.Order.{then-on, then-back, order-back, before-trans, before-not-equal, equal-from-test, paths, versions}
 use Rattle.rules.proofs.Members.{all-member, all-from-members, distinct-length}
-use Rattle.rules.proofs.Tables.{entered-ascending, table-ascending}
+use Rattle.rules.proofs.Rows.{entered-ascending, table-ascending}
 use Rattle.rules.proofs.Faults.{length-module-versions}
 use Rattle.rules.proofs.LowerWalks.{few-rows, start-on}
 use Rattle.rules.proofs.Marks.{kept}
@@ -241,5 +241,5 @@ after-tidy : (m : Meaning) (s : State) (calls : List Call) → Tidy s → All In
 after-tidy m s [] t b = t
 after-tidy m s (c ∷ cs) t b = after-tidy m (does m s c .state) cs (does-tidy m s t c (b .0)) (b .1)
 
-pub tables-right : Tables-right
-tables-right m calls b = after-tidy m fresh calls (record { ascending = tt; in-order = tt; few-rows = omega arith; few-exclusions = omega arith }) b
+pub tidy-right : Tidy-right
+tidy-right m calls b = after-tidy m fresh calls (record { ascending = tt; in-order = tt; few-rows = omega arith; few-exclusions = omega arith }) b

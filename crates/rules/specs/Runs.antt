@@ -130,5 +130,5 @@ In-bounds (lower p v n) = Unit {0}
 In-bounds (list n) = Unit {0}
 
 -- THE TABLES: after every run whose manifests are in bounds, both tables are ascending and in bounds
-abbrev pub Tables-right : Type 0
-Tables-right = (m : Meaning) (calls : List Call) → All In-bounds calls → Tidy (after m fresh calls)
+abbrev pub Tidy-right : Type 0
+Tidy-right = (m : Meaning) (calls : List Call) → All In-bounds calls → Tidy (after m fresh calls)

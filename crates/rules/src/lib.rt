@@ -1,16 +1,24 @@
 // The theory alone: the contract of each function is a theorem of specs/, so that the crate is proved only if the theorem is.
 ghost use Rattle.rules.specs.Names.{Orders-right};
+ghost use Rattle.rules.specs.Tables.{Tables-right};
 ghost use Rattle.rules.specs.Sources.{Layer-lawful, Fallback-lawful};
 ghost use Rattle.rules.specs.Lists.{List-right};
 ghost use Rattle.rules.specs.Faults.{Refusal-right};
 ghost use Rattle.rules.specs.Lowers.{Lower-right, Kept-meant};
-ghost use Rattle.rules.specs.Runs.{Runs-right, Tables-right};
+ghost use Rattle.rules.specs.Runs.{Runs-right, Tidy-right};
 ghost use Rattle.rules.specs.Changes.{Changes-right};
 ghost use Rattle.rules.specs.Examples.{Examples};
 
 // The orders of paths and of versions are total, and what is no version is below every version.
 pub fn orders_stand() -> u8
     ensures { λ _. ⌜ Orders-right ⌝ }
+{
+    0
+}
+
+// Lookup, insertion, joining and removal in tables of any items by any key, in any order that obeys the laws.
+pub fn tables_stand<T, K>() -> u8
+    ensures { λ _. ⌜ Tables-right T K ⌝ }
 {
     0
 }
@@ -65,8 +73,8 @@ pub fn runs_stand() -> u8
 }
 
 // After every run both tables are ascending and in bounds.
-pub fn tables_stand() -> u8
-    ensures { λ _. ⌜ Tables-right ⌝ }
+pub fn tidy_stands() -> u8
+    ensures { λ _. ⌜ Tidy-right ⌝ }
 {
     0
 }
