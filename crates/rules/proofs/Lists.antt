@@ -8,7 +8,8 @@ use Rattle.rules.specs.Names.{ModuleVersion, same-path, Stands, _∈_}
 use Rattle.rules.specs.Sources.{Meaning}
 use Rattle.rules.specs.Projects.{State, main-row, off-main, Reached}
 use Rattle.rules.specs.Walks.{Place, module-versions, done, list-walk}
-use Rattle.rules.specs.Lists.{table, list-of, Is-list, Fit, Nowhere-above, Least-fit, List-right-at, List-right}
+use Rattle.rules.specs.Rows.{table}
+use Rattle.rules.specs.Lists.{list-of, Is-list, Fit, Nowhere-above, Least-fit, List-right-at, List-right}
 use Rattle.rules.proofs.Members.{kept-member, kept-was, all-member, all-from-members}
 use Rattle.rules.proofs.Order.{not-equal-test, paths}
 use Rattle.rules.proofs.Rows.{stands-member, table-was, table-stands, table-ascending, tables-same}

@@ -10,7 +10,8 @@ use Rattle.rules.specs.Names.{ModuleVersion, same-path, has, Stands, _∈_}
 use Rattle.rules.specs.Sources.{Meaning, Lawful, at}
 use Rattle.rules.specs.Projects.{State, main-row, off-main, layered, remaining, Requires, Reached, Few}
 use Rattle.rules.specs.Walks.{Place, module-versions, done, list-walk}
-use Rattle.rules.specs.Lists.{table, list-of}
+use Rattle.rules.specs.Rows.{table}
+use Rattle.rules.specs.Lists.{list-of}
 use Rattle.rules.specs.Faults.{Broken}
 use Rattle.rules.specs.Lowers.{Old, offered, lower-walk, barred, kept-rows, Kept, Leads, itself, through, Allowed, Fits, ceilings-at, Sound, with-rows, Kept-right-at, Relisted, Lower-right}
 use Rattle.rules.proofs.Order.{upto-antisym, not-equal-test, paths, versions}

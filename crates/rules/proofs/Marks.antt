@@ -16,7 +16,7 @@ use Rattle.rules.specs.Causes.{Fault, is-missing}
 use Rattle.rules.specs.Sources.{Answer, given, refused, Meaning}
 use Rattle.rules.specs.Projects.{State, layered, remaining, Requires}
 use Rattle.rules.specs.Walks.{module-versions, done, list-walk}
-use Rattle.rules.specs.Lists.{table}
+use Rattle.rules.specs.Rows.{table}
 use Rattle.rules.specs.Lowers.{some, is-gone, list-in, Above, above, Gone, Leads, itself, through, Allowed, Kept, old-list, ceilings-at, offered, lower-walk, bad, barred, kept-rows, Kept-meant}
 use Rattle.rules.proofs.Order.{test-from-equal, paths}
 use Rattle.rules.proofs.Members.{kept-member, kept-was}

@@ -13,7 +13,7 @@ use Rattle.rules.specs.Projects.{State, main-row, off-main, layered, remaining
 use Rattle.rules.specs.Walks.{module-versions, done, list-walk, first-sheet}
 use Rattle.rules.proofs.Order.{apart-from-test, test-from-equal, not-equal-test, paths}
 use Rattle.rules.proofs.Members.{kept-member, kept-was, member-either}
-use Rattle.rules.proofs.Walks.{Run, run-of, run-keeps, run-grows, run-answers, run-distinct, row, module-versions-pushed, member-at, place-of, Answered}
+use Rattle.rules.proofs.Walks.{Run, run-of, run-keeps, run-grows, run-answers, run-distinct, module-versions-pushed, member-at, place-of, Answered}
 
 pub off-main-apart : (s : State) (x : ModuleVersion) → not (same-path x (s .main)) ≡ true → x .path ≡ s .main → ⊥
 off-main-apart s x t = apart-from-test paths (x .path) (s .main) (not-true _ t)

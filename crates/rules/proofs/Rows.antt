@@ -1,19 +1,20 @@
--- Tables, one row a path and ascending: what `table` makes of a list of module versions, and that a table is told by what stands in it.
--- Assumes nothing.
-use mathlib.Core.Path.{_≡_, refl, sym, ap, ap₂, _∙_}
+-- Requirement rows: what `table` makes of a list of module versions, and that a table is told by what stands in it. Assumes nothing.
+use mathlib.Core.Path.{_≡_, refl, sym, ap, _∙_, subst}
 use mathlib.Core.Bool.{Bool, true, false, cond}
-use mathlib.Core.List.{List, [], _∷_, _++_}
+use mathlib.Core.List.{List, [], _∷_}
 use mathlib.Core.Logic.{_⊎_, inl, inr, ⊎-elim}
-use Rattle.std.specs.Orderings.{isLt, reversed}
-use Rattle.std.specs.declared.cmp.Ordering.{Ordering}
-use Rattle.std.specs.declared.cmp.Ordering.the-variants.{Less, Equal, Greater}
-use Rattle.std.proofs.shelf.Elements.{all-weaker}
+use Rattle.std.specs.Orderings.{isLt}
+use Rattle.std.specs.declared.option.Option.{Option}
+use Rattle.std.specs.declared.option.Option.the-variants.{Some, None}
 use Rattle.rules.specs.Paths.{path-order}
 use Rattle.rules.specs.Versions.{version-order}
-use Rattle.rules.specs.Names.{ModuleVersion, Before, Upto, Stands, _∈_}
-use Rattle.rules.specs.Lists.{higher, entered-by, entered, tabled, table, Ascending, Nowhere-above}
-use Rattle.rules.proofs.Order.{order-equal, order-back, before-trans, before-not-equal, upto-refl, upto-trans, upto-antisym, upto-before, before-from-less, upto-from-not-less, paths, versions}
-use Rattle.rules.proofs.Members.{module-same, all-member, all-from-members}
+use Rattle.rules.specs.Names.{ModuleVersion, Upto, Stands, _∈_}
+use Rattle.rules.specs.Tables.{Meets, met, entered-all}
+use Rattle.rules.specs.Rows.{path-of, higher, Ascending-rows, row-of, with-row, table}
+use Rattle.rules.specs.Lists.{Nowhere-above}
+use Rattle.rules.proofs.Order.{upto-refl, upto-trans, upto-antisym, upto-before, before-from-less, upto-from-not-less, before-not-equal, Ways, ways, before, equal, after, paths, versions}
+use Rattle.rules.proofs.Members.{module-same}
+use Rattle.rules.proofs.Tables.{one-a-key, same-members, lookup-there, lookup-finds, entered-members, entered-ascending, entered-all-ascending, entered-all-either}
 
 -- standing
 
@@ -27,15 +28,15 @@ stands-trans x xs ys (y, h, p, u) n =
 
 -- the higher of two on one path
 
-pub higher-either : (x y : ModuleVersion) → (higher x y ≡ x) ⊎ (higher x y ≡ y)
+higher-either : (x y : ModuleVersion) → (higher x y ≡ x) ⊎ (higher x y ≡ y)
 higher-either x y = go (isLt (version-order (x .version) (y .version)))
   where
     go : (b : Bool) → (cond b y x ≡ x) ⊎ (cond b y x ≡ y)
     go true = inr refl
     go false = inl refl
 
-higher-path : (x y : ModuleVersion) → x .path ≡ y .path → y .path ≡ higher x y .path
-higher-path x y p = ⊎-elim (λ e. sym p ∙ ap (λ z. z .path) (sym e)) (λ e. ap (λ z. z .path) (sym e)) (higher-either x y)
+pub higher-meets : Meets path-of path-order higher
+higher-meets x y p = ⊎-elim (λ e. ap path-of e ∙ p) (λ e. ap path-of e) (higher-either x y)
 
 higher-upto : (x y : ModuleVersion) → Upto (x .version) (higher x y .version) × Upto (y .version) (higher x y .version)
 higher-upto x y = go (isLt (version-order (x .version) (y .version))) refl
@@ -46,126 +47,72 @@ higher-upto x y = go (isLt (version-order (x .version) (y .version))) refl
 
 -- one row entered
 
-pub entered-was : (x : ModuleVersion) (ys : List ModuleVersion) (z : ModuleVersion) → z ∈ entered x ys → (z ≡ x) ⊎ (z ∈ ys)
-entered-was x [] z h = h
-entered-was x (y ∷ ys) z h = go (entered-was x ys z) (path-order (x .path) (y .path)) h
-  where
-    go : (z ∈ entered x ys → (z ≡ x) ⊎ (z ∈ ys)) → (o : Ordering) → z ∈ entered-by o x y ys (entered x ys) → (z ≡ x) ⊎ ((z ≡ y) ⊎ (z ∈ ys))
-    go below Less k = k
-    go below Equal (inl e) = ⊎-elim (λ p. inl (e ∙ p)) (λ p. inr (inl (e ∙ p))) (higher-either x y)
-    go below Equal (inr k) = inr (inr k)
-    go below Greater (inl e) = inr (inl e)
-    go below Greater (inr k) = ⊎-elim (λ e. inl e) (λ j. inr (inr j)) (below k)
+pub with-row-ascending : (x : ModuleVersion) (t : List ModuleVersion) → Ascending-rows t → Ascending-rows (with-row x t)
+with-row-ascending = entered-ascending path-of path-order paths higher higher-meets
 
-pub entered-stands : (x : ModuleVersion) (ys : List ModuleVersion) → Stands x (entered x ys) × ((z : ModuleVersion) → z ∈ ys → Stands z (entered x ys))
-entered-stands x [] = (stands-member x (x ∷ []) (inl refl), λ z h. absurd h)
-entered-stands x (y ∷ ys) = go (entered-stands x ys .0) (entered-stands x ys .1) (path-order (x .path) (y .path)) refl
-  where
-    further : (w : ModuleVersion) (rest : List ModuleVersion) (z : ModuleVersion) → Stands z rest → Stands z (w ∷ rest)
-    further w rest z (v, k, p, u) = (v, inr k, p, u)
+module _ (x : ModuleVersion) (t : List ModuleVersion) (a : Ascending-rows t) where
+  -- the row that stands at the path of x
+  abbrev becomes : ModuleVersion
+  becomes = met path-of path-order higher x (row-of (x .path) t)
 
-    go : Stands x (entered x ys) → ((z : ModuleVersion) → z ∈ ys → Stands z (entered x ys)) → (o : Ordering) → path-order (x .path) (y .path) ≡ o
-        → Stands x (entered-by o x y ys (entered x ys)) × ((z : ModuleVersion) → (z ≡ y) ⊎ (z ∈ ys) → Stands z (entered-by o x y ys (entered x ys)))
-    go new old Less e = (stands-member x (x ∷ y ∷ ys) (inl refl), λ z h. stands-member z (x ∷ y ∷ ys) (inr h))
-    go new old Equal e =
-        let p = order-equal paths (x .path) (y .path) e in
-        let h = higher x y in (
-          (h, inl refl, p ∙ higher-path x y p, higher-upto x y .0),
-          λ z. ⊎-elim
-              (λ q. (h, inl refl, ap (λ v. v .path) q ∙ higher-path x y p, rw q (higher-upto x y .1)))
-              (λ k. stands-member z (h ∷ ys) (inr k)),
-        )
-    go new old Greater e =
-        (further y (entered x ys) x new, λ z. ⊎-elim (λ q. stands-member z (y ∷ entered x ys) (inl q)) (λ k. further y (entered x ys) z (old z k)))
+  becomes-in : becomes ∈ with-row x t
+  becomes-in = entered-members path-of path-order paths higher x t a becomes .1 (inl refl)
 
-pub entered-ascending : (x : ModuleVersion) (ys : List ModuleVersion) → Ascending ys → Ascending (entered x ys)
-entered-ascending x [] a = (tt, tt)
-entered-ascending x (y ∷ ys) a = go (entered-ascending x ys (a .1)) (path-order (x .path) (y .path)) refl
-  where
-    go : Ascending (entered x ys) → (o : Ordering) → path-order (x .path) (y .path) ≡ o → Ascending (entered-by o x y ys (entered x ys))
-    go below Less e = ((e, all-weaker _ _ (λ z h. before-trans paths (x .path) (y .path) (z .path) e h) ys (a .0)), a)
-    go below Equal e = (rw (← (higher-path x y (order-equal paths (x .path) (y .path) e))) (a .0), a .1)
-    go below Greater e = (
-      all-from-members _ (entered x ys)
-          (λ z h. ⊎-elim
-          (λ q. rw q (order-back paths (x .path) (y .path) ∙ ap reversed e))
-          (λ k. all-member (λ w. Before (y .path) (w .path)) ys (a .0) z k)
-          (entered-was x ys z h)),
-      below,
-    )
+  pub with-row-stands : Stands x (with-row x t)
+  with-row-stands = go (row-of (x .path) t) refl
+    where
+      go : (r : Option ModuleVersion) → row-of (x .path) t ≡ r → Stands x (with-row x t)
+      go None e = stands-member x (with-row x t) (subst (λ r. met path-of path-order higher x r ∈ with-row x t) e becomes-in)
+      go (Some y) e =
+          let p = lookup-there path-of path-order paths (x .path) t y e .1 in
+          (higher x y, subst (λ r. met path-of path-order higher x r ∈ with-row x t) e becomes-in, sym p ∙ sym (higher-meets x y (sym p)), higher-upto x y .0)
+
+  pub with-row-keeps : Nowhere-above t (with-row x t)
+  with-row-keeps z h = go (ways paths (z .path) (x .path))
+    where
+      stays : (z .path ≡ x .path → ⊥) → Stands z (with-row x t)
+      stays other = stands-member z (with-row x t) (entered-members path-of path-order paths higher x t a z .1 (inr (h, other)))
+
+      go : Ways path-order (z .path) (x .path) → Stands z (with-row x t)
+      go (before p) = stays (before-not-equal paths (z .path) (x .path) p)
+      go (equal p) =
+          let e = lookup-finds path-of path-order paths (x .path) t z a h p in
+          (higher x z, subst (λ r. met path-of path-order higher x r ∈ with-row x t) e becomes-in, sym (higher-meets x z (sym p)), higher-upto x z .1)
+      go (after p) = stays (λ q. before-not-equal paths (x .path) (z .path) p (sym q))
 
 -- one after another
 
-tabled-was : (t xs : List ModuleVersion) (z : ModuleVersion) → z ∈ tabled t xs → (z ∈ t) ⊎ (z ∈ xs)
-tabled-was t [] z h = inl h
-tabled-was t (x ∷ xs) z h =
-    ⊎-elim (λ k. ⊎-elim (λ e. inr (inl e)) (λ j. inl j) (entered-was x t z k)) (λ k. inr (inr k)) (tabled-was (entered x t) xs z h)
+abbrev with-all : List ModuleVersion → List ModuleVersion → List ModuleVersion
+with-all = entered-all path-of path-order higher
 
-tabled-keeps : (t xs : List ModuleVersion) → Nowhere-above t (tabled t xs)
-tabled-keeps t [] z h = stands-member z t h
-tabled-keeps t (x ∷ xs) z h = stands-trans z (entered x t) (tabled (entered x t) xs) (entered-stands x t .1 z h) (tabled-keeps (entered x t) xs)
+with-all-keeps : (t xs : List ModuleVersion) → Ascending-rows t → Nowhere-above t (with-all t xs)
+with-all-keeps t [] a z h = stands-member z t h
+with-all-keeps t (x ∷ xs) a z h =
+    stands-trans z (with-row x t) (with-all (with-row x t) xs) (with-row-keeps x t a z h) (with-all-keeps (with-row x t) xs (with-row-ascending x t a))
 
-tabled-stands : (t xs : List ModuleVersion) → Nowhere-above xs (tabled t xs)
-tabled-stands t [] z h = absurd h
-tabled-stands t (x ∷ xs) z (inl e) = rw e (stands-trans x (entered x t) (tabled (entered x t) xs) (entered-stands x t .0) (tabled-keeps (entered x t) xs))
-tabled-stands t (x ∷ xs) z (inr k) = tabled-stands (entered x t) xs z k
-
-tabled-ascending : (t xs : List ModuleVersion) → Ascending t → Ascending (tabled t xs)
-tabled-ascending t [] a = a
-tabled-ascending t (x ∷ xs) a = tabled-ascending (entered x t) xs (entered-ascending x t a)
-
--- a loop's step
-pub tabled-push : (t xs : List ModuleVersion) (x : ModuleVersion) → tabled t (xs ++ x ∷ []) ≡ entered x (tabled t xs)
-tabled-push t [] x = refl
-tabled-push t (y ∷ ys) x = tabled-push (entered y t) ys x
+with-all-stands : (t xs : List ModuleVersion) → Ascending-rows t → Nowhere-above xs (with-all t xs)
+with-all-stands t [] a z h = absurd h
+with-all-stands t (x ∷ xs) a z (inl e) =
+    rw e (stands-trans x (with-row x t) (with-all (with-row x t) xs) (with-row-stands x t a) (with-all-keeps (with-row x t) xs (with-row-ascending x t a)))
+with-all-stands t (x ∷ xs) a z (inr k) = with-all-stands (with-row x t) xs (with-row-ascending x t a) z k
 
 -- the whole table
 
 pub table-was : (xs : List ModuleVersion) (z : ModuleVersion) → z ∈ table xs → z ∈ xs
-table-was xs z h = ⊎-elim (λ k. absurd k) (λ k. k) (tabled-was [] xs z h)
+table-was xs z h = ⊎-elim (λ k. absurd k) (λ k. k) (entered-all-either path-of path-order paths higher higher-either [] xs z h)
 
 pub table-stands : (xs : List ModuleVersion) → Nowhere-above xs (table xs)
-table-stands xs = tabled-stands [] xs
+table-stands xs = with-all-stands [] xs tt
 
-pub table-ascending : (xs : List ModuleVersion) → Ascending (table xs)
-table-ascending xs = tabled-ascending [] xs tt
+pub table-ascending : (xs : List ModuleVersion) → Ascending-rows (table xs)
+table-ascending xs = entered-all-ascending path-of path-order paths higher higher-meets [] xs tt
 
 -- two tables with the same standing are one
 
-pub one-a-path : (xs : List ModuleVersion) → Ascending xs → (y z : ModuleVersion) → y ∈ xs → z ∈ xs → y .path ≡ z .path → y ≡ z
-one-a-path [] a y z h k p = absurd h
-one-a-path (x ∷ xs) a y z (inl e) (inl f) p = e ∙ sym f
-one-a-path (x ∷ xs) a y z (inl e) (inr k) p =
-    absurd (before-not-equal paths (x .path) (z .path) (all-member _ xs (a .0) z k) (ap (λ w. w .path) (sym e) ∙ p))
-one-a-path (x ∷ xs) a y z (inr h) (inl f) p =
-    absurd (before-not-equal paths (x .path) (y .path) (all-member _ xs (a .0) y h) (ap (λ w. w .path) (sym f) ∙ sym p))
-one-a-path (x ∷ xs) a y z (inr h) (inr k) p = one-a-path xs (a .1) y z h k p
+pub one-a-path : (xs : List ModuleVersion) → Ascending-rows xs → (y z : ModuleVersion) → y ∈ xs → z ∈ xs → y .path ≡ z .path → y ≡ z
+one-a-path = one-a-key path-of path-order paths
 
-same-members : (xs ys : List ModuleVersion) → Ascending xs → Ascending ys → ((z : ModuleVersion) → z ∈ xs → z ∈ ys) → ((z : ModuleVersion) → z ∈ ys → z ∈ xs) → xs ≡ ys
-same-members [] [] a b f g = refl
-same-members [] (y ∷ ys) a b f g = absurd (g y (inl refl))
-same-members (x ∷ xs) [] a b f g = absurd (f x (inl refl))
-same-members (x ∷ xs) (y ∷ ys) a b f g =
-    ap₂ (λ z zs. z ∷ zs) heads
-    (same-members xs ys (a .1) (b .1)
-    (λ z k. ⊎-elim (λ e. absurd (before-not-equal paths (x .path) (z .path) (first z k) (ap (λ w. w .path) (heads ∙ sym e)))) (λ j. j) (f z (inr k)))
-    (λ z k. ⊎-elim (λ e. absurd (before-not-equal paths (y .path) (z .path) (second z k) (ap (λ w. w .path) (sym heads ∙ sym e)))) (λ j. j) (g z (inr k))))
-  where
-    first : (z : ModuleVersion) → z ∈ xs → Before (x .path) (z .path)
-    first z k = all-member _ xs (a .0) z k
-
-    second : (z : ModuleVersion) → z ∈ ys → Before (y .path) (z .path)
-    second z k = all-member _ ys (b .0) z k
-
-    heads : x ≡ y
-    heads =
-        ⊎-elim (λ e. e)
-        (λ h. ⊎-elim (λ e. sym e)
-        (λ k. absurd (before-not-equal paths (x .path) (x .path) (before-trans paths (x .path) (y .path) (x .path) (first y k) (second x h)) refl))
-        (g y (inl refl)))
-        (f x (inl refl))
-
-members-across : (xs ys : List ModuleVersion) → Ascending xs → Nowhere-above xs ys → Nowhere-above ys xs → (x : ModuleVersion) → x ∈ xs → x ∈ ys
+members-across : (xs ys : List ModuleVersion) → Ascending-rows xs → Nowhere-above xs ys → Nowhere-above ys xs → (x : ModuleVersion) → x ∈ xs → x ∈ ys
 members-across xs ys a f g x h =
     let (y, k, p, u) = f x h in
     let (z, j, q, v) = g y k in
@@ -173,5 +120,5 @@ members-across xs ys a f g x h =
     let same : x ≡ y = module-same x y p (upto-antisym versions (x .version) (y .version) u (rw (ap (λ w. w .version) e) at v)) in
     rw same k
 
-pub tables-same : (xs ys : List ModuleVersion) → Ascending xs → Ascending ys → Nowhere-above xs ys → Nowhere-above ys xs → xs ≡ ys
-tables-same xs ys a b f g = same-members xs ys a b (members-across xs ys a f g) (members-across ys xs b g f)
+pub tables-same : (xs ys : List ModuleVersion) → Ascending-rows xs → Ascending-rows ys → Nowhere-above xs ys → Nowhere-above ys xs → xs ≡ ys
+tables-same xs ys a b f g = same-members path-of path-order paths xs ys a b (members-across xs ys a f g) (members-across ys xs b g f)

@@ -15,15 +15,16 @@ use Rattle.std.proofs.shelf.Tests.{and-parts, cases-bool}
 use Rattle.rules.specs.Orders.{Bytes}
 use Rattle.rules.specs.Versions.{version-order}
 use Rattle.rules.specs.Names.{ModuleVersion, Below, same-path, has, _∈_}
+use Rattle.rules.specs.Rows.{row-of, with-row, with-exclusion}
 use Rattle.rules.specs.Causes.{Cause, too-many-module-versions, Fault, Refusal, nothing-to-change, table-full, slice-too-short}
 use Rattle.rules.specs.Sources.{Meaning, Lawful}
 use Rattle.rules.specs.Projects.{State, Reached, Few}
 use Rattle.rules.specs.Walks.{Place, module-versions, End, done, stopped, full, list-walk}
-use Rattle.rules.specs.Lists.{entered, list-of}
+use Rattle.rules.specs.Lists.{list-of}
 use Rattle.rules.specs.Faults.{Stopped, Broken, Shown-on}
 use Rattle.rules.specs.Lowers.{behind, can-lower, with-rows, lower-walk, kept-rows, old-list, ceilings-at}
 use Rattle.rules.specs.Slices.{blank, blank-place, Lent, wide, filled, holding}
-use Rattle.rules.specs.Calls.{manifest, unread, Call, load, raise, drop, exclude, lower, list, counted, refused-for, Outcome, plainly, brought, refuses, unless, put, with-exclusions, row-of, raised, dropped, excluded, replied, if-done, if-wide, listing, nothing-lower, lowering, lowers, does}
+use Rattle.rules.specs.Calls.{manifest, unread, Call, load, raise, drop, exclude, lower, list, counted, refused-for, Outcome, plainly, brought, refuses, unless, with-exclusions, raised, dropped, excluded, replied, if-done, if-wide, listing, nothing-lower, lowering, lowers, does}
 use Rattle.rules.specs.Runs.{after, fresh, Gives, Given, Refused, fault-of, Least, Deserved, Overfull, Lowered, Runs-right}
 use Rattle.rules.proofs.Order.{equal-from-test, before-from-less, paths, versions}
 use Rattle.rules.proofs.Lists.{list-right-at}
@@ -40,8 +41,8 @@ unless-keeps true c s new r = refl
 unless-keeps false c s new (r, e) = let z : _≡_ {A = ℕ} 0 1 = cc in absurd (omega arith)
 
 raised-keeps : (s : State) (x : ModuleVersion) (o : Option ModuleVersion) → Refused (raised s x o) → raised s x o .state ≡ s
-raised-keeps s x (Some y) r = unless-keeps (isLe (version-order (x .version) (y .version))) nothing-to-change s (with-rows s (entered x (s .rows))) r
-raised-keeps s x None r = unless-keeps (leb 256 (length (s .rows))) table-full s (with-rows s (entered x (s .rows))) r
+raised-keeps s x (Some y) r = unless-keeps (isLe (version-order (x .version) (y .version))) nothing-to-change s (with-rows s (with-row x (s .rows))) r
+raised-keeps s x None r = unless-keeps (leb 256 (length (s .rows))) table-full s (with-rows s (with-row x (s .rows))) r
 
 dropped-keeps : (s : State) (p : Bytes) (o : Option ModuleVersion) → Refused (dropped s p o) → dropped s p o .state ≡ s
 dropped-keeps s p (Some y) (r, e) = let z : _≡_ {A = ℕ} 0 1 = cc in absurd (omega arith)
@@ -51,11 +52,11 @@ excluded-keeps : (s : State) (x : ModuleVersion) → Refused (excluded s x) → 
 excluded-keeps s x = go (has (s .exclusions) x)
   where
     more : Outcome
-    more = unless (leb 32 (length (s .exclusions))) table-full s (with-exclusions s (put x (s .exclusions)))
+    more = unless (leb 32 (length (s .exclusions))) table-full s (with-exclusions s (with-exclusion x (s .exclusions)))
 
     go : (b : Bool) → Refused (cond b (refuses s (plainly nothing-to-change)) more) → cond b (refuses s (plainly nothing-to-change)) more .state ≡ s
     go true r = refl
-    go false r = unless-keeps (leb 32 (length (s .exclusions))) table-full s (with-exclusions s (put x (s .exclusions))) r
+    go false r = unless-keeps (leb 32 (length (s .exclusions))) table-full s (with-exclusions s (with-exclusion x (s .exclusions))) r
 
 wide-keeps : (n : Lent) (s : State) (o : Outcome) → (Refused o → o .state ≡ s) → Refused (if-wide n s o) → if-wide n s o .state ≡ s
 wide-keeps n s o h = go (wide n)

@@ -11,14 +11,17 @@ use Rattle.std.specs.Finite.{nth}
 use Rattle.std.specs.declared.option.Option.the-variants.{Some}
 use Rattle.std.proofs.shelf.Lists.{take-all}
 use Rattle.std.proofs.shelf.Tests.{and-parts, leb-true}
+use Rattle.rules.specs.Paths.{path-order}
 use Rattle.rules.specs.Names.{ModuleVersion, same-path, _∈_, Distinct}
 use Rattle.rules.specs.Sources.{Meaning}
 use Rattle.rules.specs.Projects.{State, main-row, off-main, remaining}
 use Rattle.rules.specs.Walks.{Place, module-versions, done, full, list-walk}
-use Rattle.rules.specs.Lists.{table, list-of, Ascending}
+use Rattle.rules.specs.Rows.{path-of, table}
+use Rattle.rules.specs.Lists.{list-of}
 use Rattle.rules.specs.Slices.{blank-place, Lent, wide, filled}
-use Rattle.rules.proofs.Order.{before-not-equal, paths}
-use Rattle.rules.proofs.Members.{all-member, kept-was, distinct-length}
+use Rattle.rules.proofs.Order.{paths}
+use Rattle.rules.proofs.Members.{kept-was, distinct-length}
+use Rattle.rules.proofs.Tables.{ascending-distinct}
 use Rattle.rules.proofs.Rows.{table-was, table-ascending}
 use Rattle.rules.proofs.Walks.{run-room, run-full, run-grows, nth-left}
 use Rattle.rules.proofs.Reached.{off-main-apart, list-run}
@@ -47,10 +50,6 @@ wide-sheet n w = leb-true 256 (n .sheet) (and-parts (leb 256 (n .sheet)) (leb 25
 pub wide-list : (n : Lent) → wide n ≡ true → 256 ≤ n .list
 wide-list n w = leb-true 256 (n .list) (and-parts (leb 256 (n .sheet)) (leb 256 (n .list)) w .1)
 
-pub ascending-distinct : (xs : List ModuleVersion) → Ascending xs → Distinct xs
-ascending-distinct [] a = tt
-ascending-distinct (x ∷ xs) a = (λ h. before-not-equal paths (x .path) (x .path) (all-member _ xs (a .0) x h) refl, ascending-distinct xs (a .1))
-
 module _ (m : Meaning) (s : State) where
   pub sheet-room : (list-walk m s .end ≡ full → ⊥) → length (list-walk m s .sheet) ≤ 256
   sheet-room = run-room (remaining m s) (list-run m s) (omega arith)
@@ -73,7 +72,7 @@ module _ (m : Meaning) (s : State) where
 
       apart : Distinct (main-row s ∷ rows)
       apart =
-          (λ h. off-main-apart s (main-row s) (sheet-row (main-row s) h .1) refl, ascending-distinct rows (table-ascending (off-main s (module-versions (list-walk m s .sheet)))))
+          (λ h. off-main-apart s (main-row s) (sheet-row (main-row s) h .1) refl, ascending-distinct path-of path-order paths rows (table-ascending (off-main s (module-versions (list-walk m s .sheet)))))
 
       on : (x : ModuleVersion) → x ∈ (main-row s ∷ rows) → x ∈ module-versions (list-walk m s .sheet)
       on x (inl e) = rw e (run-grows (remaining m s) (list-run m s) (main-row s) (inl refl))

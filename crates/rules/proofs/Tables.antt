@@ -20,7 +20,7 @@ use Rattle.rules.specs.Orders.{Total}
 use Rattle.rules.specs.Names.{_∈_, Distinct}
 use Rattle.rules.specs.Tables.{keep, Ascending, lookup-by, lookup, entered-by, entered, entered-all, joined, removed-by, removed, Present, Absent, Meets, met, Tables-right}
 use Rattle.rules.proofs.Order.{before-not-equal, Ways, ways, before, equal, after, apart-from-test, not-equal-test, test-from-equal, total-of}
-use Rattle.rules.proofs.Members.{all-member, all-from-members, kept-member, kept-was, member-left, member-right}
+use Rattle.rules.proofs.Members.{all-member, all-from-members, kept-member, kept-was, member-right}
 
 -- a filter that all pass keeps all
 pub kept-all : {A : Type 0} (test : A → Bool) (xs : List A) → All (λ x. test x ≡ true) xs → kept-by test xs ≡ xs
@@ -265,6 +265,17 @@ module _ {A K : Type 0} (key : A → K) (order : K → K → Ordering) (o : Tota
         go below Equal e (inr k) = inr (inl (inr k))
         go below Greater e (inl q) = inr (inl (inl q))
         go below Greater e (inr k) = ⊎-elim (λ q. inl q) (λ j. inr (⊎-elim (λ i. inl (inr i)) (λ (w, i, p, q). inr (w, inr i, p, q)) j)) (below k)
+
+    -- where what two become is one of the two, nothing else is entered
+    module _ (either : (x y : A) → (meet x y ≡ x) ⊎ (meet x y ≡ y)) where
+      pub entered-either : (x : A) (t : List A) (z : A) → z ∈ entered key order meet x t → (z ≡ x) ⊎ (z ∈ t)
+      entered-either x t z h =
+          ⊎-elim (λ e. inl e) (⊎-elim (λ k. inr k) (λ (y, k, p, q). ⊎-elim (λ e. inl (q ∙ e)) (λ e. inr (subst (λ w. w ∈ t) (sym (q ∙ e)) k)) (either x y))) (entered-was x t z h)
+
+      pub entered-all-either : (t xs : List A) (z : A) → z ∈ entered-all key order meet t xs → (z ∈ t) ⊎ (z ∈ xs)
+      entered-all-either t [] z h = inl h
+      entered-all-either t (x ∷ xs) z h =
+          ⊎-elim (λ k. ⊎-elim (λ e. inr (inl e)) (λ j. inl j) (entered-either x t z k)) (λ k. inr (inr k)) (entered-all-either (entered key order meet x t) xs z h)
 
     pub entered-new : (x : A) (t : List A) → Absent key order (key x) t → length (entered key order meet x t) ≡ suc (length t)
     entered-new x [] none = refl

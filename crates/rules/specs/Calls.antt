@@ -1,24 +1,21 @@
 -- The six calls of a project: what each answers, and the state and the slices that it leaves, from the meaning and the state before.
 -- Assumes nothing.
-use mathlib.Core.Bool.{Bool, cond, not}
-use mathlib.Core.List.{List, [], _∷_}
+use mathlib.Core.Bool.{Bool, cond}
+use mathlib.Core.List.{List, []}
 use Prim.Native.Nat.{ℕ}
 use lib.Dec.{leb}
 use lib.ListN.{length}
 use Rattle.std.specs.Orderings.{isLe}
-use Rattle.std.specs.shelf.Lists.{kept-by}
-use Rattle.std.specs.declared.cmp.Ordering.{Ordering}
-use Rattle.std.specs.declared.cmp.Ordering.the-variants.{Less, Equal, Greater}
 use Rattle.std.specs.declared.option.Option.{Option}
 use Rattle.std.specs.declared.option.Option.the-variants.{Some, None}
 use Rattle.rules.specs.Orders.{Bytes}
 use Rattle.rules.specs.Versions.{version-order}
-use Rattle.rules.specs.Names.{ModuleVersion, module-order, same-path, has}
+use Rattle.rules.specs.Names.{ModuleVersion, has}
+use Rattle.rules.specs.Rows.{row-of, with-row, without-row, table, with-exclusion, exclusion-table}
 use Rattle.rules.specs.Causes.{Cause, slice-too-short, too-many-module-versions, table-full, nothing-to-change, Fault, Refusal}
 use Rattle.rules.specs.Sources.{Meaning}
 use Rattle.rules.specs.Projects.{State}
 use Rattle.rules.specs.Walks.{End, done, stopped, full, list-walk}
-use Rattle.rules.specs.Lists.{entered, table}
 use Rattle.rules.specs.Lowers.{can-lower, with-rows, lower-walk, kept-rows, old-list, ceilings-at}
 use Rattle.rules.specs.Slices.{Lent, wide, Slices, holding}
 
@@ -74,45 +71,25 @@ refuses s r = record { reply = refused-for r; state = s; slices = record { sheet
 abbrev pub unless : Bool → Cause → State → State → Outcome
 unless test c s new = cond test (refuses s (plainly c)) (accepts new)
 
--- the exclusions with x among them, ascending by module version, each once
-abbrev pub put-by : Ordering → ModuleVersion → ModuleVersion → List ModuleVersion → List ModuleVersion → List ModuleVersion
-put-by Less x y ys rest = x ∷ y ∷ ys
-put-by Equal x y ys rest = y ∷ ys
-put-by Greater x y ys rest = y ∷ rest
-
-abbrev pub put : ModuleVersion → List ModuleVersion → List ModuleVersion
-put x [] = x ∷ []
-put x (y ∷ ys) = put-by (module-order x y) x y ys (put x ys)
-
--- one after another
-abbrev pub put-all : List ModuleVersion → List ModuleVersion → List ModuleVersion
-put-all es [] = es
-put-all es (x ∷ xs) = put-all (put x es) xs
-
 abbrev pub with-exclusions : State → List ModuleVersion → State
 with-exclusions s es = record { main = s .main; rows = s .rows; exclusions = es }
 
 abbrev pub loaded : State → Reading → Outcome
-loaded s (manifest t) = accepts (record { main = t .main; rows = table (t .requires); exclusions = put-all [] (t .excludes) })
+loaded s (manifest t) = accepts (record { main = t .main; rows = table (t .requires); exclusions = exclusion-table (t .excludes) })
 loaded s (unread c k) = refuses s (record { cause = c; place = k; depth = 0; sheet-place = 0 })
 
--- the row of a path
-abbrev pub row-of : Bytes → List ModuleVersion → Option ModuleVersion
-row-of p [] = None
-row-of p (y ∷ ys) = cond (same-path y p) (Some y) (row-of p ys)
-
 abbrev pub raised : State → ModuleVersion → Option ModuleVersion → Outcome
-raised s x (Some y) = unless (isLe (version-order (x .version) (y .version))) nothing-to-change s (with-rows s (entered x (s .rows)))
-raised s x None = unless (leb 256 (length (s .rows))) table-full s (with-rows s (entered x (s .rows)))
+raised s x (Some y) = unless (isLe (version-order (x .version) (y .version))) nothing-to-change s (with-rows s (with-row x (s .rows)))
+raised s x None = unless (leb 256 (length (s .rows))) table-full s (with-rows s (with-row x (s .rows)))
 
 abbrev pub dropped : State → Bytes → Option ModuleVersion → Outcome
-dropped s p (Some y) = accepts (with-rows s (kept-by (λ z. not (same-path z p)) (s .rows)))
+dropped s p (Some y) = accepts (with-rows s (without-row p (s .rows)))
 dropped s p None = refuses s (plainly nothing-to-change)
 
 abbrev pub excluded : State → ModuleVersion → Outcome
 excluded s x =
     cond (has (s .exclusions) x) (refuses s (plainly nothing-to-change))
-    (unless (leb 32 (length (s .exclusions))) table-full s (with-exclusions s (put x (s .exclusions))))
+    (unless (leb 32 (length (s .exclusions))) table-full s (with-exclusions s (with-exclusion x (s .exclusions))))
 
 -- list and lower
 

@@ -1,53 +1,21 @@
 -- The list that a finished walk gives, and what it means: the least list that stands at or above all that is reached. Assumes nothing.
 use mathlib.Core.Path.{_≡_}
-use mathlib.Core.Bool.{cond}
-use mathlib.Core.List.{List, [], _∷_}
+use mathlib.Core.List.{List, _∷_}
 use mathlib.Core.Logic.{_↔_}
-use Rattle.std.specs.Orderings.{isLt}
 use Rattle.std.specs.shelf.Lists.{All}
-use Rattle.std.specs.declared.cmp.Ordering.{Ordering}
-use Rattle.std.specs.declared.cmp.Ordering.the-variants.{Less, Equal, Greater}
-use Rattle.rules.specs.Paths.{path-order}
-use Rattle.rules.specs.Versions.{version-order}
-use Rattle.rules.specs.Names.{ModuleVersion, Before, Stands, _∈_}
+use Rattle.rules.specs.Names.{ModuleVersion, Stands, _∈_}
+use Rattle.rules.specs.Rows.{Ascending-rows, table}
 use Rattle.rules.specs.Sources.{Meaning}
 use Rattle.rules.specs.Projects.{State, main-row, off-main, Reached}
 use Rattle.rules.specs.Walks.{Place, module-versions, done, list-walk}
-
-abbrev pub higher : ModuleVersion → ModuleVersion → ModuleVersion
-higher x y = cond (isLt (version-order (x .version) (y .version))) y x
-
--- by how the path of x stands to that of y, the head of a table
-abbrev pub entered-by : Ordering → ModuleVersion → ModuleVersion → List ModuleVersion → List ModuleVersion → List ModuleVersion
-entered-by Less x y ys rest = x ∷ y ∷ ys
-entered-by Equal x y ys rest = higher x y ∷ ys
-entered-by Greater x y ys rest = y ∷ rest
-
--- a table with x entered at its path, where the higher version stays
-abbrev pub entered : ModuleVersion → List ModuleVersion → List ModuleVersion
-entered x [] = x ∷ []
-entered x (y ∷ ys) = entered-by (path-order (x .path) (y .path)) x y ys (entered x ys)
-
--- a table with one after another entered
-abbrev pub tabled : List ModuleVersion → List ModuleVersion → List ModuleVersion
-tabled t [] = t
-tabled t (x ∷ xs) = tabled (entered x t) xs
-
-abbrev pub table : List ModuleVersion → List ModuleVersion
-table = tabled []
 
 -- the main row, then each other path of the sheet, ascending, with its highest version there
 abbrev pub list-of : State → List Place → List ModuleVersion
 list-of s sheet = main-row s ∷ table (off-main s (module-versions sheet))
 
--- each path once, ascending
-abbrev pub Ascending : List ModuleVersion → Type 0
-Ascending [] = Unit {0}
-Ascending (x ∷ xs) = All (λ y. Before (x .path) (y .path)) xs × Ascending xs
-
 -- a list: the main row, then other paths, each once, ascending
 abbrev pub Is-list : State → List ModuleVersion → Type 0
-Is-list s l = (xs : List ModuleVersion) × (l ≡ main-row s ∷ xs) × Ascending xs × All (λ x. x .path ≡ s .main → ⊥) xs
+Is-list s l = (xs : List ModuleVersion) × (l ≡ main-row s ∷ xs) × Ascending-rows xs × All (λ x. x .path ≡ s .main → ⊥) xs
 
 -- every module version reached stands in it, at that version or higher
 abbrev pub Fit : Meaning → State → List ModuleVersion → Type 0

@@ -10,11 +10,12 @@ use Rattle.rules.specs.Orders.{Bytes}
 use Rattle.rules.specs.Paths.{path-order}
 use Rattle.rules.specs.Versions.{version-order}
 use Rattle.rules.specs.Names.{ModuleVersion, same-path, Below, Stands, _∈_}
+use Rattle.rules.specs.Rows.{Ascending-rows, table}
 use Rattle.rules.specs.Causes.{Fault, is-missing}
 use Rattle.rules.specs.Sources.{Answer, given, refused, Meaning, Lawful, at}
 use Rattle.rules.specs.Projects.{State, layered, remaining, Requires}
 use Rattle.rules.specs.Walks.{Place, written, done, stopped, Walked, ended, within, walk, first-sheet, list-walk}
-use Rattle.rules.specs.Lists.{table, list-of, Ascending}
+use Rattle.rules.specs.Lists.{list-of}
 
 -- a list without its main row
 abbrev pub behind : List ModuleVersion → List ModuleVersion
@@ -133,7 +134,7 @@ module _ (m : Meaning) (s : State) where
   Allowed cs x = (y : ModuleVersion) → Leads x y → (Above cs y → ⊥) × (Gone y → ⊥)
 
   pub record Kept (cs rows : List ModuleVersion) : Type 0 where
-    pub ascending : Ascending rows
+    pub ascending : Ascending-rows rows
     pub allowed : (x : ModuleVersion) → x ∈ rows → (x ∈ offered (layered m s) cs) × Allowed cs x
     pub highest : (x : ModuleVersion) → x ∈ offered (layered m s) cs → Allowed cs x → Stands x rows
 
@@ -157,7 +158,7 @@ module _ (m : Meaning) (s : State) where
   -- What the kept rows are worth.
   pub record Kept-right-at (cs rows : List ModuleVersion) : Type 0 where
     -- they are a table, on old paths
-    pub ascending : Ascending rows
+    pub ascending : Ascending-rows rows
     pub old : (x : ModuleVersion) → x ∈ rows → Old cs x
     -- By chains: a kept row fits, and whatever fits on an old path stands at or below a kept row. Whatever lies in a sound set fits,
     -- since a set that is closed holds all that its members lead to; so this speaks of every set, told by a test or not.

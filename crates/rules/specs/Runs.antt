@@ -7,14 +7,14 @@ use Prim.Native.Nat.{ℕ, _≤_}
 use lib.Chars.{codes}
 use lib.ListN.{length}
 use Rattle.std.specs.shelf.Lists.{All}
-use Rattle.std.specs.declared.cmp.Ordering.the-variants.{Less}
 use Rattle.rules.specs.Orders.{Bytes}
-use Rattle.rules.specs.Names.{ModuleVersion, Below, module-order, _∈_, Distinct}
+use Rattle.rules.specs.Names.{ModuleVersion, Below, _∈_, Distinct}
+use Rattle.rules.specs.Rows.{Ascending-rows, Ascending-exclusions}
 use Rattle.rules.specs.Causes.{too-many-module-versions, nothing-to-change, Refusal, Fault}
 use Rattle.rules.specs.Sources.{Meaning, Lawful}
 use Rattle.rules.specs.Projects.{State, Reached, Few, Many}
 use Rattle.rules.specs.Walks.{Place, module-versions}
-use Rattle.rules.specs.Lists.{Ascending, Is-list, Least-fit}
+use Rattle.rules.specs.Lists.{Is-list, Least-fit}
 use Rattle.rules.specs.Faults.{Broken, Shown-on}
 use Rattle.rules.specs.Lowers.{behind, ceilings, Old, with-rows, Kept-right-at}
 use Rattle.rules.specs.Slices.{blank, blank-place, Lent, wide, filled}
@@ -108,14 +108,9 @@ Runs-right = (m : Meaning) → Lawful m → (calls : List Call) → Right m (aft
 
 -- The tables.
 
--- each module version once, ascending
-abbrev pub In-order : List ModuleVersion → Type 0
-In-order [] = Unit {0}
-In-order (x ∷ xs) = All (λ y. module-order x y ≡ Less) xs × In-order xs
-
 pub record Tidy (s : State) : Type 0 where
-  pub ascending : Ascending (s .rows)
-  pub in-order : In-order (s .exclusions)
+  pub ascending : Ascending-rows (s .rows)
+  pub in-order : Ascending-exclusions (s .exclusions)
   pub few-rows : length (s .rows) ≤ 256
   pub few-exclusions : length (s .exclusions) ≤ 32
 

@@ -1,17 +1,15 @@
 -- What a source means, the law that a listing source keeps, and the exclude layer over a meaning. Assumes nothing.
 use mathlib.Core.Path.{_≡_}
 use mathlib.Core.Bool.{cond, not}
-use mathlib.Core.List.{List, [], _∷_}
+use mathlib.Core.List.{List}
 use Prim.Native.Nat.{_+_, min}
 use lib.Dec.{ltb}
 use lib.ListN.{length}
-use Rattle.std.specs.declared.cmp.Ordering.{Ordering}
-use Rattle.std.specs.declared.cmp.Ordering.the-variants.{Less, Equal, Greater}
-use Rattle.std.specs.shelf.Lists.{All, kept-by}
+use Rattle.std.specs.shelf.Lists.{kept-by}
 use Rattle.rules.specs.Orders.{Bytes}
-use Rattle.rules.specs.Versions.{version-order}
 use Rattle.rules.specs.Causes.{absent, too-many-to-list, is-missing, Fault}
-use Rattle.rules.specs.Names.{ModuleVersion, Below, has, _∈_}
+use Rattle.rules.specs.Names.{ModuleVersion, has, _∈_}
+use Rattle.rules.specs.Rows.{Ascending-versions, joined-versions}
 
 pub data Answer (A : Type 0) : Type 0 where
   given : A → Answer A
@@ -23,18 +21,13 @@ pub record Meaning : Type 0 where
   -- the versions of a path
   pub listing : Bytes → Answer (List Bytes)
 
--- each stands before all that follow: ascending, and each once
-abbrev pub Ascends : List Bytes → Type 0
-Ascends [] = Unit {0}
-Ascends (v ∷ vs) = All (Below v) vs × Ascends vs
-
 abbrev pub at : Bytes → Bytes → ModuleVersion
 at p v = record { path = p; version = v }
 
 -- a listing that is no fault is ascending, and holds every version that has a requirement list
 abbrev pub Lawful : Meaning → Type 0
 Lawful m = (p : Bytes) (vs : List Bytes) → m .listing p ≡ given vs
-    → Ascends vs × ((v : Bytes) (rs : List ModuleVersion) → m .requirements (at p v) ≡ given rs → v ∈ vs)
+    → Ascending-versions vs × ((v : Bytes) (rs : List ModuleVersion) → m .requirements (at p v) ≡ given rs → v ∈ vs)
 
 -- f of what is given
 abbrev pub narrowed : {A B : Type 0} → (A → B) → Answer A → Answer B
@@ -73,25 +66,11 @@ abbrev pub or-else : {A : Type 0} → Answer A → Answer A → Answer A
 or-else (given a) b = given a
 or-else (refused f) b = cond (is-missing (f .cause)) b (refused f)
 
--- ascending versions with v among them, each once
-abbrev pub placed-by : Ordering → Bytes → Bytes → List Bytes → List Bytes → List Bytes
-placed-by Less v w ws rest = v ∷ w ∷ ws
-placed-by Equal v w ws rest = w ∷ ws
-placed-by Greater v w ws rest = w ∷ rest
-
-abbrev pub placed : Bytes → List Bytes → List Bytes
-placed v [] = v ∷ []
-placed v (w ∷ ws) = placed-by (version-order v w) v w ws (placed v ws)
-
-abbrev pub merged : List Bytes → List Bytes → List Bytes
-merged [] ws = ws
-merged (v ∷ vs) ws = placed v (merged vs ws)
-
 -- a listing must hold the versions of both, so it needs both
 abbrev pub both-listed : Answer (List Bytes) → Answer (List Bytes) → Answer (List Bytes)
 both-listed (refused f) b = refused f
 both-listed (given vs) (refused f) = refused f
-both-listed (given vs) (given ws) = given (merged vs ws)
+both-listed (given vs) (given ws) = given (joined-versions vs ws)
 
 abbrev pub too-many : Fault
 too-many = record { cause = too-many-to-list; place = 0; depth = 0 }
