@@ -14,12 +14,12 @@ use Rattle.rules.specs.Paths.{path-order}
 use Rattle.rules.specs.Versions.{version-order}
 use Rattle.rules.specs.Names.{ModuleVersion, same-path, Upto, _∈_}
 use Rattle.rules.specs.Causes.{Fault, is-missing}
-use Rattle.rules.specs.Sources.{Answer, given, refused, Meaning, at, narrowed, included}
-use Rattle.rules.specs.Projects.{State, off-main, layered, remaining}
+use Rattle.rules.specs.Sources.{Answer, given, refused, Meaning, at, narrowed}
+use Rattle.rules.specs.Projects.{State, off-main, View, remaining}
 use Rattle.rules.specs.Walks.{Place, written, done, full, Walked, ended}
 use Rattle.rules.specs.Lists.{Is-list}
 use Rattle.rules.specs.Lowers.{lowered, ceilings, Old, Above, above, under, versions-in, offered, listed, offers, excused, Gone, lower-ask}
-use Rattle.rules.proofs.Order.{equal-from-test, not-equal-test, before-from-less, Ways, ways, before, equal, after, upto-before, upto-equal, paths, versions}
+use Rattle.rules.proofs.Order.{equal-from-test, before-from-less, Ways, ways, before, equal, after, upto-before, upto-equal, paths, versions}
 use Rattle.rules.proofs.Turns.{written-append}
 use Rattle.rules.proofs.Members.{member-left, member-right, member-either, all-member}
 
@@ -133,32 +133,25 @@ module _ (n : Meaning) (next : List Place → Walked) where
 
 -- remaining requirements
 
-module _ (m : Meaning) (s : State) where
-  pub remaining-apart : (x : ModuleVersion) → (x .path ≡ s .main → ⊥) → remaining m s x ≡ narrowed (off-main s) (layered m s .requirements x)
-  remaining-apart x n = rw (not-equal-test paths (x .path) (s .main) n)
-
-  pub available-not-refused : (x : ModuleVersion) (xs : List ModuleVersion) (f : Fault) → layered m s .requirements x ≡ given xs → remaining m s x ≡ refused f → ⊥
-  available-not-refused x xs f e q = go (same-path x (s .main)) q
-    where
-      go : (b : Bool) → narrowed (off-main s) (cond b (given (included (s .exclusions) (s .rows))) (layered m s .requirements x)) ≡ refused f → ⊥
-      go true r = let z : _≡_ {A = ℕ} 0 1 = cc in omega arith
-      go false r =
-          let g : narrowed (off-main s) (layered m s .requirements x) ≡ given (off-main s xs) = ap (narrowed (off-main s)) e in
-          let z : _≡_ {A = ℕ} 0 1 = cc in
-          omega arith
+module _ (w : View) where
+  pub available-not-refused : (x : ModuleVersion) (xs : List ModuleVersion) (f : Fault) → w .layer .requirements x ≡ given xs → remaining w x ≡ refused f → ⊥
+  available-not-refused x xs f e q =
+      let g : remaining w x ≡ given (off-main (w .main) xs) = ap (narrowed (off-main (w .main))) e in
+      let z : _≡_ {A = ℕ} 0 1 = cc in
+      omega arith
 
   -- what lower's walk was answered, where the row is neither above its ceiling nor gone
-  pub lower-given : (cs : List ModuleVersion) (x : ModuleVersion) (ys : List ModuleVersion) → (Above cs x → ⊥) → (Gone m s x → ⊥) → lower-ask m s cs x ≡ given ys → remaining m s x ≡ given ys
+  pub lower-given : (cs : List ModuleVersion) (x : ModuleVersion) (ys : List ModuleVersion) → (Above cs x → ⊥) → (Gone w x → ⊥) → lower-ask w cs x ≡ given ys → remaining w x ≡ given ys
   lower-given cs x ys low there e = unbarred (above cs x) refl e
     where
-      excuse : (f : Fault) → remaining m s x ≡ refused f → (b : Bool) → is-missing (f .cause) ≡ b → cond b (given []) (refused f) ≡ given ys → remaining m s x ≡ given ys
+      excuse : (f : Fault) → remaining w x ≡ refused f → (b : Bool) → is-missing (f .cause) ≡ b → cond b (given []) (refused f) ≡ given ys → remaining w x ≡ given ys
       excuse f r true t q = absurd (there (f, r, t))
       excuse f r false t q = let z : _≡_ {A = ℕ} 0 1 = cc in absurd (omega arith)
 
-      answer : (a : Answer (List ModuleVersion)) → remaining m s x ≡ a → excused a ≡ given ys → remaining m s x ≡ given ys
+      answer : (a : Answer (List ModuleVersion)) → remaining w x ≡ a → excused a ≡ given ys → remaining w x ≡ given ys
       answer (given xs) r q = r ∙ q
       answer (refused f) r q = excuse f r (is-missing (f .cause)) refl q
 
-      unbarred : (b : Bool) → above cs x ≡ b → cond b (given []) (excused (remaining m s x)) ≡ given ys → remaining m s x ≡ given ys
+      unbarred : (b : Bool) → above cs x ≡ b → cond b (given []) (excused (remaining w x)) ≡ given ys → remaining w x ≡ given ys
       unbarred true t q = absurd (low (above-from-test cs x t))
-      unbarred false t q = answer (remaining m s x) refl q
+      unbarred false t q = answer (remaining w x) refl q

@@ -18,7 +18,7 @@ use Rattle.rules.specs.Names.{ModuleVersion, Below, same-path, has, _∈_}
 use Rattle.rules.specs.Rows.{row-of, with-row, with-exclusion}
 use Rattle.rules.specs.Causes.{Cause, too-many-module-versions, Fault, Refusal, nothing-to-change, table-full, slice-too-short}
 use Rattle.rules.specs.Sources.{Meaning, Lawful}
-use Rattle.rules.specs.Projects.{State, Reached, Few}
+use Rattle.rules.specs.Projects.{State, view, Reached, Few}
 use Rattle.rules.specs.Walks.{Place, module-versions, End, done, stopped, full, list-walk}
 use Rattle.rules.specs.Lists.{list-of}
 use Rattle.rules.specs.Faults.{Stopped, Broken, Shown-on}
@@ -72,7 +72,7 @@ module _ (m : Meaning) (s : State) where
   lowering-keeps : (n : Lent) (cs : List ModuleVersion) → Refused (lowering m s n cs) → lowering m s n cs .state ≡ s
   lowering-keeps n cs (r, e) = go (lower-walk m s cs .end) e
     where
-      go : (w : End) → replied w (length (lower-walk m s cs .sheet)) (length (old-list m s)) ≡ refused-for r → if-done w (with-rows s (kept-rows m s cs)) s ≡ s
+      go : (w : End) → replied w (length (lower-walk m s cs .sheet)) (length (old-list m s)) ≡ refused-for r → if-done w (with-rows s (kept-rows (view m s) cs)) s ≡ s
       go done q = let z : _≡_ {A = ℕ} 0 1 = cc in absurd (omega arith)
       go (stopped k f) q = refl
       go full q = refl
@@ -212,7 +212,7 @@ module _ (m : Meaning) (s : State) where
     abbrev settled : Outcome
     settled = record {
       reply = counted (length (lower-walk m s cs .sheet)) (length (old-list m s));
-      state = with-rows s (kept-rows m s cs);
+      state = with-rows s (kept-rows (view m s) cs);
       slices = holding n (lower-walk m s cs .sheet) (old-list m s);
     }
 
@@ -224,7 +224,7 @@ module _ (m : Meaning) (s : State) where
         ∙ ap (λ b. cond b (lowering m s n cs) (nothing-lower m s n)) t
         ∙ ap (λ e. record {
           reply = replied e (length (lower-walk m s cs .sheet)) (length (old-list m s));
-          state = if-done e (with-rows s (kept-rows m s cs)) s;
+          state = if-done e (with-rows s (kept-rows (view m s) cs)) s;
           slices = holding n (lower-walk m s cs .sheet) (old-list m s);
         }) e
 
@@ -318,7 +318,7 @@ lowers-right m law s p v n g =
     })
   where
     then : Meaning → State → Bytes → Bytes → State
-    then m s p v = with-rows s (kept-rows m s (ceilings-at m s p v))
+    then m s p v = with-rows s (kept-rows (view m s) (ceilings-at m s p v))
 
 -- the slices' lengths
 

@@ -19,7 +19,7 @@ use Rattle.rules.specs.Tables.{keep}
 use Rattle.rules.specs.Rows.{own, path-of, higher, Ascending-rows, row-of, with-row, without-row, with-exclusion}
 use Rattle.rules.specs.Causes.{Cause, nothing-to-change, table-full, slice-too-short}
 use Rattle.rules.specs.Sources.{Meaning}
-use Rattle.rules.specs.Projects.{State}
+use Rattle.rules.specs.Projects.{State, view}
 use Rattle.rules.specs.Walks.{module-versions, End, done, stopped, full, list-walk}
 use Rattle.rules.specs.Lowers.{can-lower, with-rows, lower-walk, kept-rows, old-list, ceilings-at}
 use Rattle.rules.specs.Slices.{Lent, wide, holding}
@@ -90,11 +90,11 @@ module _ (m : Meaning) (s : State) (t : Tidy s) where
       cs : List ModuleVersion
       cs = ceilings-at m s p v
 
-      go : (e : End) → lower-walk m s cs .end ≡ e → Tidy (if-done e (with-rows s (kept-rows m s cs)) s)
+      go : (e : End) → lower-walk m s cs .end ≡ e → Tidy (if-done e (with-rows s (kept-rows (view m s) cs)) s)
       go done ok =
           let k = kept m s p v ok in
-          let few = distinct-length (kept-rows m s cs) (module-versions (lower-walk m s cs .sheet)) (ascending-distinct path-of path-order paths (kept-rows m s cs) (k .ascending)) (λ x h. start-on m s cs ok x (k .allowed x h .0)) in
-          with-rows-tidy s (kept-rows m s cs) t (k .ascending) (omega (arith, few, length-module-versions (lower-walk m s cs .sheet), few-rows m s cs ok))
+          let few = distinct-length (kept-rows (view m s) cs) (module-versions (lower-walk m s cs .sheet)) (ascending-distinct path-of path-order paths (kept-rows (view m s) cs) (k .ascending)) (λ x h. start-on m s cs ok x (k .allowed x h .0)) in
+          with-rows-tidy s (kept-rows (view m s) cs) t (k .ascending) (omega (arith, few, length-module-versions (lower-walk m s cs .sheet), few-rows m s cs ok))
       go (stopped k f) ok = t
       go full ok = t
 

@@ -16,7 +16,7 @@ use Rattle.std.proofs.shelf.Tests.{ltb-true, ltb-false, cases-lt}
 use Rattle.rules.specs.Names.{ModuleVersion, has, _∈_, Distinct}
 use Rattle.rules.specs.Causes.{Fault}
 use Rattle.rules.specs.Sources.{Answer, given, refused}
-use Rattle.rules.specs.Walks.{Place, module-versions, noted, written, End, done, stopped, full, Walked, ended, answered, questioned, walk}
+use Rattle.rules.specs.Walks.{Place, module-versions, noted, written, End, done, stopped, full, Walked, ended, within, answered, questioned, walk}
 use Rattle.rules.proofs.Members.{member-from-has, no-member-from-has, member-left, member-right, distinct-push}
 
 -- places
@@ -128,32 +128,27 @@ module _ (ask : ModuleVersion → Answer (List ModuleVersion)) where
       read on None e = ends (nth-past sheet k e)
       read on (Some r) e = asked on r e (ask (r .of)) refl
 
-  -- what a turn keeps that keeps it at each row that it appends
-  abbrev pub Kept-on : (List Place → Type 0) → Type 0
-  Kept-on I = (k : ℕ) (sheet : List Place) (r : Place) (xs : List ModuleVersion) (x : ModuleVersion) → nth sheet k ≡ Some r → ask (r .of) ≡ given xs → x ∈ xs
+  -- what a turn keeps that keeps it at each row that it appends, from the place `low` on
+  abbrev pub Kept-on : ℕ → (List Place → Type 0) → Type 0
+  Kept-on low I = (k : ℕ) (sheet : List Place) (r : Place) (xs : List ModuleVersion) (x : ModuleVersion) → low ≤ k → nth sheet k ≡ Some r → ask (r .of) ≡ given xs → x ∈ xs
       → (x ∈ module-versions sheet → ⊥) → I sheet → I (sheet ++ row x k ∷ [])
 
-  turn-keeps : (I : List Place → Type 0) → Kept-on I → (k : ℕ) (sheet : List Place) (r : Place) (xs : List ModuleVersion) → nth sheet k ≡ Some r → ask (r .of) ≡ given xs
-      → I sheet → I (written k xs sheet)
-  turn-keeps I step k sheet r xs n a i =
+  turn-keeps : (low : ℕ) (I : List Place → Type 0) → Kept-on low I → (k : ℕ) (sheet : List Place) (r : Place) (xs : List ModuleVersion) → low ≤ k → nth sheet k ≡ Some r
+      → ask (r .of) ≡ given xs → I sheet → I (written k xs sheet)
+  turn-keeps low I step k sheet r xs l n a i =
       written-keeps (λ s. (nth s k ≡ Some r) × I s) k xs
-      (λ s x h new both. (nth-left s (row x k ∷ []) k r (both .0), step k s r xs x (both .0) a h new (both .1)))
+      (λ s x h new both. (nth-left s (row x k ∷ []) k r (both .0), step k s r xs x l (both .0) a h new (both .1)))
       sheet (n, i) .1
 
-  pub run-keeps : (I : List Place → Type 0) → Kept-on I → {k : ℕ} {sheet last : List Place} {e : End} → Run k sheet last e → I sheet → I last
-  run-keeps I step (ends h) i = i
-  run-keeps I step (stops n a) i = i
-  run-keeps I step (fills {k} {sheet} {r} {xs} n a h) i = turn-keeps I step k sheet r xs n a i
-  run-keeps I step (goes {k} {sheet} {r = r} {xs = xs} n a h run) i = run-keeps I step run (turn-keeps I step k sheet r xs n a i)
-
-  -- no module version stands twice on the sheet
-  pub run-distinct : {k : ℕ} {sheet last : List Place} {e : End} → Run k sheet last e → Distinct (module-versions sheet) → Distinct (module-versions last)
-  run-distinct run =
-      run-keeps (λ s. Distinct (module-versions s)) (λ k s r xs x n a h new d. rw module-versions-pushed (distinct-push (module-versions s) x d new)) run
+  pub run-keeps : (low : ℕ) (I : List Place → Type 0) → Kept-on low I → {k : ℕ} {sheet last : List Place} {e : End} → Run k sheet last e → low ≤ k → I sheet → I last
+  run-keeps low I step (ends h) l i = i
+  run-keeps low I step (stops n a) l i = i
+  run-keeps low I step (fills {k} {sheet} {r} {xs} n a h) l i = turn-keeps low I step k sheet r xs l n a i
+  run-keeps low I step (goes {k} {sheet} {r = r} {xs = xs} n a h run) l i = run-keeps low I step run (omega arith) (turn-keeps low I step k sheet r xs l n a i)
 
   pub run-grows : {k : ℕ} {sheet last : List Place} {e : End} → Run k sheet last e → (x : ModuleVersion) → x ∈ module-versions sheet → x ∈ module-versions last
   run-grows run x =
-      run-keeps (λ s. x ∈ module-versions s) (λ k s r xs y n a h new i. rw module-versions-pushed (member-left (module-versions s) (y ∷ []) x i)) run
+      run-keeps 0 (λ s. x ∈ module-versions s) (λ k s r xs y l n a h new i. rw module-versions-pushed (member-left (module-versions s) (y ∷ []) x i)) run (omega arith)
 
   -- x was answered by a list, which is on the sheet
   abbrev pub Answered : ModuleVersion → List Place → Type 0
@@ -189,16 +184,16 @@ module _ (ask : ModuleVersion → Answer (List ModuleVersion)) where
   run-answers low (fills n a h) t old i r g p = let z : _≡_ {A = ℕ} 0 1 = cc in absurd (omega arith)
   run-answers low (goes {k} {sheet} {r = r} {xs = xs} n a h run) t old i q g p = run-answers low run t (turn-answers low k sheet r xs n a old) i q g p
 
-  -- one that stopped has at its place what brought the fault
+  -- one that stopped has at its place, where it began or later, what brought the fault
   pub run-stopped : {k : ℕ} {sheet last : List Place} {e : End} → Run k sheet last e → (p : ℕ) (f : Fault) → e ≡ stopped p f
-      → (r : Place) × (nth last p ≡ Some r) × (ask (r .of) ≡ refused f)
+      → (k ≤ p) × ((r : Place) × (nth last p ≡ Some r) × (ask (r .of) ≡ refused f))
   run-stopped (ends h) p f t = let z : _≡_ {A = ℕ} 0 1 = cc in absurd (omega arith)
   run-stopped (stops {k} {sheet} {r} {f = g} n a) p f t =
       let kp : k ≡ p = cc in
       let gf : g ≡ f = cc in
-      (r, rw kp at n, a ∙ ap refused gf)
+      (omega arith, (r, rw kp at n, a ∙ ap refused gf))
   run-stopped (fills n a h) p f t = let z : _≡_ {A = ℕ} 0 1 = cc in absurd (omega arith)
-  run-stopped (goes n a h run) p f t = run-stopped run p f t
+  run-stopped (goes n a h run) p f t = let (l, there) = run-stopped run p f t in (omega arith, there)
 
   -- and one that needs more room has more than 256 rows
   pub run-full : {k : ℕ} {sheet last : List Place} {e : End} → Run k sheet last e → e ≡ full → 256 < length last
@@ -213,3 +208,53 @@ module _ (ask : ModuleVersion → Answer (List ModuleVersion)) where
   run-room (stops n a) l t = l
   run-room (fills n a h) l t = absurd (t refl)
   run-room (goes n a h run) l t = run-room run h t
+
+  -- A walk that begins with rows from place 0, and questions the places from 1 on.
+  module _ (xs : List ModuleVersion) (sheet : List Place) where
+    pub data Begun : List Place → End → Type 0 where
+      overflows : 256 < length (written 0 xs sheet) → Begun (written 0 xs sheet) full
+      begins : {last : List Place} {e : End} → length (written 0 xs sheet) ≤ 256 → Run 1 (written 0 xs sheet) last e → Begun last e
+
+    pub begun-of : Begun (within (walk ask 255 1) (written 0 xs sheet) .sheet) (within (walk ask 255 1) (written 0 xs sheet) .end)
+    begun-of = go (ltb 256 (length (written 0 xs sheet))) refl
+      where
+        go : (b : Bool) → ltb 256 (length (written 0 xs sheet)) ≡ b
+            → Begun (cond b (ended full (written 0 xs sheet)) (walk ask 255 1 (written 0 xs sheet)) .sheet) (cond b (ended full (written 0 xs sheet)) (walk ask 255 1 (written 0 xs sheet)) .end)
+        go true e = overflows (ltb-true 256 (length (written 0 xs sheet)) e)
+        go false e = let short = ltb-false 256 (length (written 0 xs sheet)) e in begins short (run-of 255 1 (written 0 xs sheet) refl short)
+
+    pub begun-keeps : {last : List Place} {e : End} → (I : List Place → Type 0) → ((s : List Place) (x : ModuleVersion) → x ∈ xs → (x ∈ module-versions s → ⊥) → I s → I (s ++ row x 0 ∷ []))
+        → Kept-on 1 I → Begun last e → I sheet → I last
+    begun-keeps I first step (overflows h) i = written-keeps I 0 xs first sheet i
+    begun-keeps I first step (begins h run) i = run-keeps 1 I step run (omega arith) (written-keeps I 0 xs first sheet i)
+
+    -- no module version stands twice on the sheet
+    pub begun-distinct : {last : List Place} {e : End} → Begun last e → Distinct (module-versions sheet) → Distinct (module-versions last)
+    begun-distinct =
+        begun-keeps (λ s. Distinct (module-versions s)) (λ s x h new d. rw module-versions-pushed (distinct-push (module-versions s) x d new))
+        (λ k s r ys x l n a h new d. rw module-versions-pushed (distinct-push (module-versions s) x d new))
+
+    pub begun-grows : {last : List Place} {e : End} → Begun last e → (x : ModuleVersion) → x ∈ module-versions sheet → x ∈ module-versions last
+    begun-grows b x =
+        begun-keeps (λ s. x ∈ module-versions s) (λ s y h new i. rw module-versions-pushed (member-left (module-versions s) (y ∷ []) x i))
+        (λ k s r ys y l n a h new i. rw module-versions-pushed (member-left (module-versions s) (y ∷ []) x i)) b
+
+    pub begun-holds : {last : List Place} {e : End} → Begun last e → (x : ModuleVersion) → x ∈ xs → x ∈ module-versions last
+    begun-holds (overflows h) x i = written-holds 0 xs sheet x i
+    begun-holds (begins h run) x i = run-grows run x (written-holds 0 xs sheet x i)
+
+    pub begun-answers : {last : List Place} {e : End} → Begun last e → e ≡ done → (i : ℕ) (r : Place) → 1 ≤ i → nth last i ≡ Some r → Answered (r .of) last
+    begun-answers (overflows h) t i r l n = let z : _≡_ {A = ℕ} 0 1 = cc in absurd (omega arith)
+    begun-answers (begins h run) t i r l n = run-answers 1 run t (λ j q g k p. absurd (omega arith)) i r l n
+
+    pub begun-stopped : {last : List Place} {e : End} → Begun last e → (p : ℕ) (f : Fault) → e ≡ stopped p f → (1 ≤ p) × ((r : Place) × (nth last p ≡ Some r) × (ask (r .of) ≡ refused f))
+    begun-stopped (overflows h) p f t = let z : _≡_ {A = ℕ} 0 1 = cc in absurd (omega arith)
+    begun-stopped (begins h run) p f t = run-stopped run p f t
+
+    pub begun-full : {last : List Place} {e : End} → Begun last e → e ≡ full → 256 < length last
+    begun-full (overflows h) t = h
+    begun-full (begins h run) t = run-full run t
+
+    pub begun-room : {last : List Place} {e : End} → Begun last e → (e ≡ full → ⊥) → length last ≤ 256
+    begun-room (overflows h) t = absurd (t refl)
+    begun-room (begins h run) t = run-room run h t

@@ -14,7 +14,7 @@ use Rattle.rules.specs.Names.{ModuleVersion, has}
 use Rattle.rules.specs.Rows.{row-of, with-row, without-row, table, with-exclusion, exclusion-table}
 use Rattle.rules.specs.Causes.{Cause, slice-too-short, too-many-module-versions, table-full, nothing-to-change, Fault, Refusal}
 use Rattle.rules.specs.Sources.{Meaning}
-use Rattle.rules.specs.Projects.{State}
+use Rattle.rules.specs.Projects.{State, view}
 use Rattle.rules.specs.Walks.{End, done, stopped, full, list-walk}
 use Rattle.rules.specs.Lowers.{can-lower, with-rows, lower-walk, kept-rows, old-list, ceilings-at}
 use Rattle.rules.specs.Slices.{Lent, wide, Slices, holding}
@@ -124,7 +124,7 @@ module _ (m : Meaning) (s : State) where
   abbrev pub lowering : Lent → List ModuleVersion → Outcome
   lowering n cs = record {
     reply = replied (lower-walk m s cs .end) (length (lower-walk m s cs .sheet)) (length (old-list m s));
-    state = if-done (lower-walk m s cs .end) (with-rows s (kept-rows m s cs)) s;
+    state = if-done (lower-walk m s cs .end) (with-rows s (kept-rows (view m s) cs)) s;
     slices = holding n (lower-walk m s cs .sheet) (old-list m s);
   }
 

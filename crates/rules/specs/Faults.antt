@@ -6,7 +6,7 @@ use Prim.Native.Nat.{ℕ, suc}
 use Rattle.rules.specs.Names.{ModuleVersion}
 use Rattle.rules.specs.Causes.{Fault}
 use Rattle.rules.specs.Sources.{Meaning, refused}
-use Rattle.rules.specs.Projects.{State, Reached, Chain, Few, Without-list, remaining}
+use Rattle.rules.specs.Projects.{State, Reached, Chain, Few, view, Without-list, remaining}
 use Rattle.rules.specs.Walks.{Place, done, stopped, list-walk, trail}
 
 module _ (m : Meaning) (s : State) where
@@ -16,7 +16,7 @@ module _ (m : Meaning) (s : State) where
 
   -- some module version that is reached, the main one apart, has no requirement list
   abbrev pub Broken : Type 0
-  Broken = (x : ModuleVersion) × Reached m s x × (x .path ≡ s .main → ⊥) × Without-list m s x
+  Broken = (x : ModuleVersion) × Reached m s x × (x .path ≡ s .main → ⊥) × Without-list (view m s) x
 
   -- What a refusal shows on a sheet: at its place stands a module version with just that fault, and the from numbers lead back from there
   -- along a chain from the main module.
@@ -24,7 +24,7 @@ module _ (m : Meaning) (s : State) where
   Shown-on sheet p f = (x : ModuleVersion) × (xs : List ModuleVersion)
       × (trail (suc p) sheet p ≡ x ∷ xs)
       × Chain m s (x ∷ xs)
-      × (remaining m s x ≡ refused f)
+      × (remaining (view m s) x ≡ refused f)
       × (x .path ≡ s .main → ⊥)
 
   abbrev pub Shown : ℕ → Fault → Type 0

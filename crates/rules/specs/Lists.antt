@@ -11,7 +11,7 @@ use Rattle.rules.specs.Walks.{Place, module-versions, done, list-walk}
 
 -- the main row, then each other path of the sheet, ascending, with its highest version there
 abbrev pub list-of : State → List Place → List ModuleVersion
-list-of s sheet = main-row s ∷ table (off-main s (module-versions sheet))
+list-of s sheet = main-row s ∷ table (off-main (s .main) (module-versions sheet))
 
 -- a list: the main row, then other paths, each once, ascending
 abbrev pub Is-list : State → List ModuleVersion → Type 0

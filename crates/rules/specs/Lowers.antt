@@ -13,7 +13,7 @@ use Rattle.rules.specs.Names.{ModuleVersion, same-path, Below, Stands, _∈_}
 use Rattle.rules.specs.Rows.{Ascending-rows, table}
 use Rattle.rules.specs.Causes.{Fault, is-missing}
 use Rattle.rules.specs.Sources.{Answer, given, refused, Meaning, Lawful, at}
-use Rattle.rules.specs.Projects.{State, layered, remaining, Requires}
+use Rattle.rules.specs.Projects.{State, View, view, remaining, Requires}
 use Rattle.rules.specs.Walks.{Place, written, done, stopped, Walked, ended, within, walk, first-sheet, list-walk}
 use Rattle.rules.specs.Lists.{list-of}
 
@@ -91,43 +91,39 @@ list-in (refused f) = []
 abbrev pub with-rows : State → List ModuleVersion → State
 with-rows s rows = record { main = s .main; rows = rows; exclusions = s .exclusions }
 
-module _ (m : Meaning) (s : State) where
+module _ (w : View) where
   -- what lower's walk asks: no row above its ceiling is questioned
   abbrev pub lower-ask : List ModuleVersion → ModuleVersion → Answer (List ModuleVersion)
-  lower-ask cs x = cond (above cs x) (given []) (excused (remaining m s x))
-
-  -- Lower's walk: the sheet is written anew, the main row and then the offers, and the walk goes on from place 1.
-  unfoldable pub lower-walk : List ModuleVersion → Walked
-  lower-walk cs = offers (layered m s) (walk (lower-ask cs) 255 1) cs (first-sheet s)
+  lower-ask cs x = cond (above cs x) (given []) (excused (remaining w x))
 
   -- it is above its ceiling, or missing
   abbrev pub bad : List ModuleVersion → ModuleVersion → Bool
-  bad cs x = above cs x || is-gone (remaining m s x)
+  bad cs x = above cs x || is-gone (remaining w x)
 
   -- a chain from x meets, within so many steps, one that is bad
   unfoldable pub barred : List ModuleVersion → ℕ → ModuleVersion → Bool
   barred cs zero x = bad cs x
-  barred cs (suc n) x = bad cs x || some (barred cs n) (list-in (remaining m s x))
+  barred cs (suc n) x = bad cs x || some (barred cs n) (list-in (remaining w x))
 
   -- The kept rows: of each path the highest that was offered and is not barred. A sheet has at most 256 rows, and no chain has to be
   -- longer than there are rows.
   unfoldable pub kept-rows : List ModuleVersion → List ModuleVersion
-  kept-rows cs = table (kept-by (λ x. not (barred cs 257 x)) (offered (layered m s) cs))
+  kept-rows cs = table (kept-by (λ x. not (barred cs 257 x)) (offered (w .layer) cs))
 
   -- What that means, in chains.
 
   -- a chain of remaining requirements from one to the other
   pub data Leads : ModuleVersion → ModuleVersion → Type 0 where
     itself : {x : ModuleVersion} → Leads x x
-    through : {x y z : ModuleVersion} → Requires m s x y → Leads y z → Leads x z
+    through : {x y z : ModuleVersion} → Requires w x y → Leads y z → Leads x z
 
   -- it is missing
   abbrev pub Gone : ModuleVersion → Type 0
-  Gone x = (f : Fault) × (remaining m s x ≡ refused f) × (is-missing (f .cause) ≡ true)
+  Gone x = (f : Fault) × (remaining w x ≡ refused f) × (is-missing (f .cause) ≡ true)
 
   -- it has a requirement list
   abbrev pub Available : ModuleVersion → Type 0
-  Available x = (xs : List ModuleVersion) × (layered m s .requirements x ≡ given xs)
+  Available x = (xs : List ModuleVersion) × (w .layer .requirements x ≡ given xs)
 
   -- no chain from x, itself included, meets a row above its ceiling or one that is missing
   abbrev pub Allowed : List ModuleVersion → ModuleVersion → Type 0
@@ -135,15 +131,8 @@ module _ (m : Meaning) (s : State) where
 
   pub record Kept (cs rows : List ModuleVersion) : Type 0 where
     pub ascending : Ascending-rows rows
-    pub allowed : (x : ModuleVersion) → x ∈ rows → (x ∈ offered (layered m s) cs) × Allowed cs x
-    pub highest : (x : ModuleVersion) → x ∈ offered (layered m s) cs → Allowed cs x → Stands x rows
-
-  -- the list that lower starts from, and its ceilings
-  abbrev pub old-list : List ModuleVersion
-  old-list = list-of s (list-walk m s .sheet)
-
-  abbrev pub ceilings-at : Bytes → Bytes → List ModuleVersion
-  ceilings-at p v = ceilings p v old-list
+    pub allowed : (x : ModuleVersion) → x ∈ rows → (x ∈ offered (w .layer) cs) × Allowed cs x
+    pub highest : (x : ModuleVersion) → x ∈ offered (w .layer) cs → Allowed cs x → Stands x rows
 
   -- all that x leads to, itself included, is available and above no ceiling
   abbrev pub Fits : List ModuleVersion → ModuleVersion → Type 0
@@ -153,7 +142,7 @@ module _ (m : Meaning) (s : State) where
   pub record Sound (cs : List ModuleVersion) (set : ModuleVersion → Type 0) : Type 0 where
     pub available : (x : ModuleVersion) → set x → Available x
     pub low : (x : ModuleVersion) → set x → Above cs x → ⊥
-    pub closed : (x y : ModuleVersion) → set x → Requires m s x y → set y
+    pub closed : (x y : ModuleVersion) → set x → Requires w x y → set y
 
   -- What the kept rows are worth.
   pub record Kept-right-at (cs rows : List ModuleVersion) : Type 0 where
@@ -169,6 +158,18 @@ module _ (m : Meaning) (s : State) where
     pub lie : (set : ModuleVersion → Bool) × Sound cs (λ x. set x ≡ true) × ((x : ModuleVersion) → x ∈ rows → set x ≡ true)
     pub most : (set : ModuleVersion → Bool) → Sound cs (λ x. set x ≡ true) → (x : ModuleVersion) → set x ≡ true → Old cs x → Stands x rows
 
+module _ (m : Meaning) (s : State) where
+  -- Lower's walk: the sheet is written anew, the main row and then the offers, and the walk goes on from place 1.
+  unfoldable pub lower-walk : List ModuleVersion → Walked
+  lower-walk cs = offers (view m s .layer) (walk (lower-ask (view m s) cs) 255 1) cs (first-sheet s)
+
+  -- the list that lower starts from, and its ceilings
+  abbrev pub old-list : List ModuleVersion
+  old-list = list-of s (list-walk m s .sheet)
+
+  abbrev pub ceilings-at : Bytes → Bytes → List ModuleVersion
+  ceilings-at p v = ceilings p v old-list
+
   -- A list's walk right then is done, and on the old paths the list shows exactly the kept rows.
   pub record Relisted (cs rows : List ModuleVersion) : Type 0 where
     pub listed : list-walk m (with-rows s rows) .end ≡ done
@@ -177,9 +178,10 @@ module _ (m : Meaning) (s : State) where
 -- THE KEPT ROWS: where lower's walk is done, what is computed is what is meant, and nothing else is
 abbrev pub Kept-meant : Type 0
 Kept-meant = (m : Meaning) (s : State) (p v : Bytes) → lower-walk m s (ceilings-at m s p v) .end ≡ done
-    → (rows : List ModuleVersion) → (rows ≡ kept-rows m s (ceilings-at m s p v)) ↔ Kept m s (ceilings-at m s p v) rows
+    → (rows : List ModuleVersion) → (rows ≡ kept-rows (view m s) (ceilings-at m s p v)) ↔ Kept (view m s) (ceilings-at m s p v) rows
 
 -- THE LOWER: over a lawful meaning the kept rows are worth all that
 abbrev pub Lower-right : Type 0
 Lower-right = (m : Meaning) → Lawful m → (s : State) (p v : Bytes) → lower-walk m s (ceilings-at m s p v) .end ≡ done
-    → Kept-right-at m s (ceilings-at m s p v) (kept-rows m s (ceilings-at m s p v)) × Relisted m s (ceilings-at m s p v) (kept-rows m s (ceilings-at m s p v))
+    → Kept-right-at (view m s) (ceilings-at m s p v) (kept-rows (view m s) (ceilings-at m s p v))
+    × Relisted m s (ceilings-at m s p v) (kept-rows (view m s) (ceilings-at m s p v))

@@ -1,6 +1,6 @@
 -- A project's state, the remaining requirements of a module version, and what is reached from the main module. Assumes nothing.
 use mathlib.Core.Path.{_≡_}
-use mathlib.Core.Bool.{cond, not}
+use mathlib.Core.Bool.{not}
 use mathlib.Core.List.{List, [], _∷_}
 use Prim.Native.Nat.{_≤_, _<_}
 use lib.Chars.{codes}
@@ -21,18 +21,27 @@ abbrev pub main-row : State → ModuleVersion
 main-row s = record { path = s .main; version = codes "v0.0.0" }
 
 -- those on other paths than the main one
-abbrev pub off-main : State → List ModuleVersion → List ModuleVersion
-off-main s = kept-by (λ y. not (same-path y (s .main)))
+abbrev pub off-main : Bytes → List ModuleVersion → List ModuleVersion
+off-main main = kept-by (λ y. not (same-path y main))
 
--- the meaning below the project: the pile of sources under the exclude layer
-abbrev pub layered : Meaning → State → Meaning
-layered m s = excluding (s .exclusions) m
+-- The remaining requirements of the main module: its rows that are not excluded, without those on its own path.
+abbrev pub main-requirements : State → List ModuleVersion
+main-requirements s = off-main (s .main) (included (s .exclusions) (s .rows))
 
-module _ (m : Meaning) (s : State) where
-  -- the remaining requirements: of the main module its rows that are not excluded, of another the list that the exclude layer
-  -- gives; both without rows on the main path
+-- What a project sees of other modules: all but its rows.
+pub record View : Type 0 where
+  pub main : Bytes
+  -- the exclude layer over the pile of sources
+  pub layer : Meaning
+
+abbrev pub view : Meaning → State → View
+view m s = record { main = s .main; layer = excluding (s .exclusions) m }
+
+module _ (w : View) where
+  -- The remaining requirements of a module version, one on the main path too: the list that the exclude layer gives, without rows on the
+  -- main path.
   abbrev pub remaining : ModuleVersion → Answer (List ModuleVersion)
-  remaining x = narrowed (off-main s) (cond (same-path x (s .main)) (given (included (s .exclusions) (s .rows))) (layered m s .requirements x))
+  remaining x = narrowed (off-main (w .main)) (w .layer .requirements x)
 
   -- y is a remaining requirement of x
   abbrev pub Requires : ModuleVersion → ModuleVersion → Type 0
@@ -41,10 +50,12 @@ module _ (m : Meaning) (s : State) where
   abbrev pub Without-list : ModuleVersion → Type 0
   Without-list x = (f : Fault) × (remaining x ≡ refused f)
 
+module _ (m : Meaning) (s : State) where
   -- A chain, its last member first: it starts at the main module, and each later member is a remaining requirement of the one before.
   pub data Chain : List ModuleVersion → Type 0 where
     start : Chain (main-row s ∷ [])
-    onward : {x y : ModuleVersion} {xs : List ModuleVersion} → Chain (x ∷ xs) → Requires x y → Chain (y ∷ x ∷ xs)
+    first : {x : ModuleVersion} → x ∈ main-requirements s → Chain (x ∷ main-row s ∷ [])
+    onward : {x y z : ModuleVersion} {xs : List ModuleVersion} → Chain (x ∷ z ∷ xs) → Requires (view m s) x y → Chain (y ∷ x ∷ z ∷ xs)
 
   -- a chain leads to x
   abbrev pub Reached : ModuleVersion → Type 0

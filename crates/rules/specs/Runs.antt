@@ -12,7 +12,7 @@ use Rattle.rules.specs.Names.{ModuleVersion, Below, _∈_, Distinct}
 use Rattle.rules.specs.Rows.{Ascending-rows, Ascending-exclusions}
 use Rattle.rules.specs.Causes.{too-many-module-versions, nothing-to-change, Refusal, Fault}
 use Rattle.rules.specs.Sources.{Meaning, Lawful}
-use Rattle.rules.specs.Projects.{State, Reached, Few, Many}
+use Rattle.rules.specs.Projects.{State, view, Reached, Few, Many}
 use Rattle.rules.specs.Walks.{Place, module-versions}
 use Rattle.rules.specs.Lists.{Is-list, Least-fit}
 use Rattle.rules.specs.Faults.{Broken, Shown-on}
@@ -69,8 +69,8 @@ module _ (m : Meaning) (s : State) where
     pub least : Least old
     -- of the state only the rows are changed
     pub state : o .state ≡ with-rows s (o .state .rows)
-    -- the rows are the highest that can stand together under the ceilings
-    pub kept : Kept-right-at m s (ceilings p v old) (o .state .rows)
+    -- the rows are the highest that can stand together under the ceilings, as the state sees other modules then
+    pub kept : Kept-right-at (view m (o .state)) (ceilings p v old) (o .state .rows)
     -- a list taken right then, in slices long enough, is given, and on the old paths shows exactly the rows
     pub relisted : (k : Lent) → wide k ≡ true → (l : List ModuleVersion) × Gives (does m (o .state) (list k)) k l
         × ((x : ModuleVersion) → Old (ceilings p v old) x → x ∈ l ↔ x ∈ o .state .rows)

@@ -11,7 +11,7 @@ use Rattle.std.specs.declared.option.Option.the-variants.{Some, None}
 use Rattle.rules.specs.Names.{ModuleVersion, has}
 use Rattle.rules.specs.Causes.{Fault}
 use Rattle.rules.specs.Sources.{Answer, given, refused, Meaning}
-use Rattle.rules.specs.Projects.{State, main-row, remaining}
+use Rattle.rules.specs.Projects.{State, main-row, main-requirements, view, remaining}
 
 -- a row of a sheet: a module version, and the number of the place that it came from
 pub record Place : Type 0 where
@@ -65,9 +65,9 @@ walk ask (suc left) place sheet = questioned ask (walk ask left (suc place)) pla
 abbrev pub first-sheet : State → List Place
 first-sheet s = record { of = main-row s; from = 0 } ∷ []
 
--- the walk that a list makes
+-- The walk that a list makes: the rows of the main module are taken first, and the places from 1 on are questioned.
 unfoldable pub list-walk : Meaning → State → Walked
-list-walk m s = walk (remaining m s) 256 0 (first-sheet s)
+list-walk m s = within (walk (remaining (view m s)) 255 1) (written 0 (main-requirements s) (first-sheet s))
 
 -- The module versions that the from numbers lead through, from a place back to place 0.
 abbrev pub trail-on : ℕ → List ModuleVersion → List ModuleVersion
