@@ -21,7 +21,7 @@ use Rattle.rules.specs.Causes.{number, table-full, nothing-to-change}
 use Rattle.rules.specs.Sources.{Meaning}
 use Rattle.rules.specs.Projects.{State}
 use Rattle.rules.specs.Lowers.{with-rows}
-use Rattle.rules.specs.Calls.{Reply, accepted, counted, refused-for, Outcome, plainly, refuses, unless, with-exclusions, raised, dropped, excluded, does}
+use Rattle.rules.specs.Calls.{Reply, accepted, counted, refused, Outcome, refusal-for, refuses, unless, with-exclusions, raised, dropped, excluded, does}
 use Rattle.rules.specs.Runs.{after, fresh}
 use Rattle.rules.specs.Changes.{No-row, Accepted, Refused-with, Changes, Changes-right}
 use Rattle.rules.proofs.Order.{upto-before, before-from-less, paths, versions, module-versions}
@@ -53,14 +53,14 @@ module _ (x : ModuleVersion) (rows : List ModuleVersion) (a : Ascending-rows row
 abbrev told-by : Reply → ℕ
 told-by accepted = 0
 told-by (counted places rows) = 0
-told-by (refused-for r) = number (r .cause)
+told-by (refused r) = number (r .cause)
 
 -- a raise
 
 -- the three ways that it goes
 pub data Raising (s : State) (x : ModuleVersion) (o : Outcome) : Type 0 where
-  is-high : Stands x (s .rows) → o ≡ refuses s (plainly nothing-to-change) → Raising s x o
-  is-full : No-row (x .path) (s .rows) → 256 ≤ length (s .rows) → o ≡ refuses s (plainly table-full) → Raising s x o
+  is-high : Stands x (s .rows) → o ≡ refuses s (refusal-for nothing-to-change) → Raising s x o
+  is-full : No-row (x .path) (s .rows) → 256 ≤ length (s .rows) → o ≡ refuses s (refusal-for table-full) → Raising s x o
   is-raised : (Stands x (s .rows) → ⊥) → (No-row (x .path) (s .rows) → length (s .rows) < 256) → Accepted o → o .state ≡ with-rows s (with-row x (s .rows)) → Raising s x o
 
 no-row-stands : (x : ModuleVersion) (rows : List ModuleVersion) → No-row (x .path) rows → Stands x rows → ⊥
@@ -112,18 +112,18 @@ drop-rows : (s : State) (p : Bytes) → Ascending-rows (s .rows) → (o : Option
 drop-rows s p a (Some w) q y = removed-members path-of path-order paths p (s .rows) a y
 drop-rows s p a None q y = let z : _≡_ {A = ℕ} 0 1 = cc in absurd (omega arith)
 
-drop-gone : (s : State) (p : Bytes) → Ascending-rows (s .rows) → (o : Option ModuleVersion) → row-of p (s .rows) ≡ o
+drop-none : (s : State) (p : Bytes) → Ascending-rows (s .rows) → (o : Option ModuleVersion) → row-of p (s .rows) ≡ o
     → Refused-with nothing-to-change (dropped s p o) ↔ No-row p (s .rows)
-drop-gone s p a (Some y) e =
+drop-none s p a (Some y) e =
     let (h, q) = lookup-there path-of path-order paths p (s .rows) y e in
     (λ r. let z : _≡_ {A = ℕ} 0 1 = cc in absurd (omega arith), λ none. absurd (none y h q))
-drop-gone s p a None e = (λ r. lookup-misses path-of path-order paths p (s .rows) a e, λ none. refl)
+drop-none s p a None e = (λ r. lookup-misses path-of path-order paths p (s .rows) a e, λ none. refl)
 
 -- an exclude
 
 pub data Excluding (s : State) (x : ModuleVersion) (o : Outcome) : Type 0 where
-  is-there : x ∈ s .exclusions → o ≡ refuses s (plainly nothing-to-change) → Excluding s x o
-  is-full : (x ∈ s .exclusions → ⊥) → 32 ≤ length (s .exclusions) → o ≡ refuses s (plainly table-full) → Excluding s x o
+  is-there : x ∈ s .exclusions → o ≡ refuses s (refusal-for nothing-to-change) → Excluding s x o
+  is-full : (x ∈ s .exclusions → ⊥) → 32 ≤ length (s .exclusions) → o ≡ refuses s (refusal-for table-full) → Excluding s x o
   is-put : (x ∈ s .exclusions → ⊥) → length (s .exclusions) < 32 → Accepted o → o .state ≡ with-exclusions s (with-exclusion x (s .exclusions)) → Excluding s x o
 
 leaving-out : (s : State) (x : ModuleVersion) → Excluding s x (excluded s x)
@@ -134,7 +134,7 @@ leaving-out s x = go (has (s .exclusions) x) refl
     by-room new false t = is-put new (leb-false 32 (length (s .exclusions)) t) refl refl
 
     go : (b : Bool) → has (s .exclusions) x ≡ b
-        → Excluding s x (cond b (refuses s (plainly nothing-to-change)) (unless (leb 32 (length (s .exclusions))) table-full s (with-exclusions s (with-exclusion x (s .exclusions)))))
+        → Excluding s x (cond b (refuses s (refusal-for nothing-to-change)) (unless (leb 32 (length (s .exclusions))) table-full s (with-exclusions s (with-exclusion x (s .exclusions)))))
     go true t = is-there (member-from-has (s .exclusions) x t) refl
     go false t = by-room (no-member-from-has (s .exclusions) x t) (leb 32 (length (s .exclusions))) refl
 
@@ -157,20 +157,20 @@ module _ (s : State) (x : ModuleVersion) (o : Outcome) where
 changes : (m : Meaning) (s : State) → Ascending-rows (s .rows) → Ascending-exclusions (s .exclusions) → Changes m s
 unfolding does
 changes m s a b = record {
-  loads = λ t. refl;
-  main = λ t. refl;
-  rows = λ t y h. table-was (t .requires) y h;
-  highest = λ t. table-stands (t .requires);
-  exclusions = λ t y. let (to, from) = entered-all-told own module-order module-versions (λ v w e. e) [] (t .excludes) tt y in (λ h. ⊎-elim (λ k. absurd k) (λ k. k) (to h), λ h. from (inr h));
-  raises = λ x. raise-rows s x a (raised s x (row-of (x .path) (s .rows))) (raising s x a (row-of (x .path) (s .rows)) refl);
-  high = λ x. raise-high s x a (raised s x (row-of (x .path) (s .rows))) (raising s x a (row-of (x .path) (s .rows)) refl);
-  full = λ x. raise-full s x a (raised s x (row-of (x .path) (s .rows))) (raising s x a (row-of (x .path) (s .rows)) refl);
-  drops = λ p. drop-rows s p a (row-of p (s .rows));
-  gone = λ p. drop-gone s p a (row-of p (s .rows)) refl;
-  excludes = λ x. exclude-put s x (excluded s x) b (leaving-out s x);
-  present = λ x. exclude-there s x (excluded s x) (leaving-out s x);
-  no-room = λ x. exclude-full s x (excluded s x) (leaving-out s x);
+  load-accepted = λ t. refl;
+  load-main = λ t. refl;
+  load-rows = λ t y h. table-was (t .requires) y h;
+  load-highest = λ t. table-stands (t .requires);
+  load-exclusions = λ t y. let (to, from) = entered-all-told own module-order module-versions (λ v w e. e) [] (t .excludes) tt y in (λ h. ⊎-elim (λ k. absurd k) (λ k. k) (to h), λ h. from (inr h));
+  raise-rows = λ x. raise-rows s x a (raised s x (row-of (x .path) (s .rows))) (raising s x a (row-of (x .path) (s .rows)) refl);
+  raise-not-higher = λ x. raise-high s x a (raised s x (row-of (x .path) (s .rows))) (raising s x a (row-of (x .path) (s .rows)) refl);
+  raise-table-full = λ x. raise-full s x a (raised s x (row-of (x .path) (s .rows))) (raising s x a (row-of (x .path) (s .rows)) refl);
+  drop-rows = λ p. drop-rows s p a (row-of p (s .rows));
+  drop-no-row = λ p. drop-none s p a (row-of p (s .rows)) refl;
+  exclude-exclusions = λ x. exclude-put s x (excluded s x) b (leaving-out s x);
+  exclude-present = λ x. exclude-there s x (excluded s x) (leaving-out s x);
+  exclude-table-full = λ x. exclude-full s x (excluded s x) (leaving-out s x);
 }
 
 pub changes-right : Changes-right
-changes-right m calls b = let t = tidy-right m calls b in changes m (after m fresh calls) (t .ascending) (t .in-order)
+changes-right m calls b = let t = tidy-right m calls b in changes m (after m fresh calls) (t .rows-ascend) (t .exclusions-ascend)

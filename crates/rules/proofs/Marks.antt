@@ -13,18 +13,18 @@ use Rattle.rules.specs.Orders.{Bytes}
 use Rattle.rules.specs.Versions.{version-order}
 use Rattle.rules.specs.Names.{ModuleVersion, _∈_}
 use Rattle.rules.specs.Causes.{Fault, is-missing}
-use Rattle.rules.specs.Sources.{Answer, given, refused, Meaning}
+use Rattle.rules.specs.Sources.{Answer, found, fault, Meaning, found-in}
 use Rattle.rules.specs.Projects.{State, View, view, remaining, Requires}
 use Rattle.rules.specs.Walks.{module-versions, done, list-walk}
 use Rattle.rules.specs.Rows.{table}
-use Rattle.rules.specs.Lowers.{some, is-gone, list-in, Above, above, Gone, Leads, itself, through, Allowed, Kept, old-list, ceilings-at, offered, lower-walk, bad, barred, kept-rows, Kept-meant}
+use Rattle.rules.specs.Lowers.{some, is-missing-answer, Above, is-above, Missing, Leads, itself, through, Allowed, Kept, old-list, ceilings-at, offers, lower-walk, is-bad, barred, kept-rows, Kept-meant}
 use Rattle.rules.proofs.Order.{test-from-equal, paths}
 use Rattle.rules.proofs.Members.{kept-member, kept-was}
 use Rattle.rules.proofs.Rows.{table-was, table-stands, table-ascending, tables-same}
 use Rattle.rules.proofs.Reached.{required-apart}
 use Rattle.rules.proofs.Lists.{is-list}
 use Rattle.rules.proofs.Faults.{length-module-versions}
-use Rattle.rules.proofs.Offers.{above-from-test, ceilings-apart, offered-was}
+use Rattle.rules.proofs.Offers.{above-from-test, ceilings-apart, offers-was}
 use Rattle.rules.proofs.LowerWalks.{few-rows, start-on, has-list}
 
 -- how many of a list pass a test
@@ -68,7 +68,7 @@ module _ (f g : ModuleVersion → Bool) (more : (x : ModuleVersion) → f x ≡ 
 
 -- the tests
 
-test-from-above : (cs : List ModuleVersion) (x : ModuleVersion) → Above cs x → above cs x ≡ true
+test-from-above : (cs : List ModuleVersion) (x : ModuleVersion) → Above cs x → is-above cs x ≡ true
 test-from-above [] x (c, h, p, v) = absurd h
 test-from-above (d ∷ cs) x (c, inl e, p, v) =
     or-left _ _ (and-from _ _ (test-from-equal paths (d .path) (x .path) (ap (λ w. w .path) (sym e) ∙ p)) (ap isLt (ap (λ w. version-order (w .version) (x .version)) (sym e) ∙ v)))
@@ -84,13 +84,13 @@ there-some test [] x h t = absurd h
 there-some test (y ∷ ys) x (inl e) t = or-left _ _ (ap test (sym e) ∙ t)
 there-some test (y ∷ ys) x (inr h) t = or-right _ _ (there-some test ys x h t)
 
-in-list : (a : Answer (List ModuleVersion)) (y : ModuleVersion) → y ∈ list-in a → (ys : List ModuleVersion) × (a ≡ given ys) × (y ∈ ys)
-in-list (given ys) y h = (ys, refl, h)
-in-list (refused f) y h = absurd h
+in-found : (a : Answer (List ModuleVersion)) (y : ModuleVersion) → y ∈ found-in a → (ys : List ModuleVersion) × (a ≡ found ys) × (y ∈ ys)
+in-found (found ys) y h = (ys, refl, h)
+in-found (fault f) y h = absurd h
 
-gone-there : (a : Answer (List ModuleVersion)) → is-gone a ≡ true → (f : Fault) × (a ≡ refused f) × (is-missing (f .cause) ≡ true)
-gone-there (given xs) t = absurd (true≢false (sym t))
-gone-there (refused f) t = (f, refl, t)
+missing-there : (a : Answer (List ModuleVersion)) → is-missing-answer a ≡ true → (f : Fault) × (a ≡ fault f) × (is-missing (f .cause) ≡ true)
+missing-there (found xs) t = absurd (true≢false (sym t))
+missing-there (fault f) t = (f, refl, t)
 
 -- a filter depends on its test at members alone
 kept-same : (f g : ModuleVersion → Bool) (xs : List ModuleVersion) → ((x : ModuleVersion) → x ∈ xs → f x ≡ g x) → kept-by f xs ≡ kept-by g xs
@@ -100,19 +100,19 @@ kept-same f g (x ∷ xs) same = ap₂ (λ b ys. cond b (x ∷ ys) ys) (same x (i
 -- barred
 
 module _ (w : View) (cs : List ModuleVersion) where
-  bad-meets : (x : ModuleVersion) → bad w cs x ≡ true → Above cs x ⊎ Gone w x
-  bad-meets x t = ⊎-elim (λ h. inl (above-from-test cs x h)) (λ h. inr (gone-there (remaining w x) h)) (or-cases (above cs x) (is-gone (remaining w x)) t)
+  bad-meets : (x : ModuleVersion) → is-bad w cs x ≡ true → Above cs x ⊎ Missing w x
+  bad-meets x t = ⊎-elim (λ h. inl (above-from-test cs x h)) (λ h. inr (missing-there (remaining w x) h)) (or-cases (is-above cs x) (is-missing-answer (remaining w x)) t)
 
-  barred-meets : (n : ℕ) (x : ModuleVersion) → barred w cs n x ≡ true → (y : ModuleVersion) × Leads w x y × (Above cs y ⊎ Gone w y)
+  barred-meets : (n : ℕ) (x : ModuleVersion) → barred w cs n x ≡ true → (y : ModuleVersion) × Leads w x y × (Above cs y ⊎ Missing w y)
   unfolding barred
   barred-meets zero x t = (x, itself, bad-meets x t)
   barred-meets (suc n) x t =
       ⊎-elim (λ h. (x, itself, bad-meets x h))
       (λ h.
-      let (y, k, e) = some-there (barred w cs n) (list-in (remaining w x)) h in
+      let (y, k, e) = some-there (barred w cs n) (found-in (remaining w x)) h in
       let (z, l, met) = barred-meets n y e in
-      (z, through (in-list (remaining w x) y k) l, met))
-      (or-cases (bad w cs x) (some (barred w cs n) (list-in (remaining w x))) t)
+      (z, through (in-found (remaining w x) y k) l, met))
+      (or-cases (is-bad w cs x) (some (barred w cs n) (found-in (remaining w x))) t)
 
   pub allowed-unbarred : (n : ℕ) (x : ModuleVersion) → Allowed w cs x → barred w cs n x ≡ false
   allowed-unbarred n x free =
@@ -124,20 +124,20 @@ module _ (w : View) (cs : List ModuleVersion) where
   barred-next (suc n) x t =
       ⊎-elim (λ h. or-left _ _ h)
       (λ h.
-      let (y, k, e) = some-there (barred w cs n) (list-in (remaining w x)) h in
-      or-right (bad w cs x) _ (there-some (barred w cs (suc n)) (list-in (remaining w x)) y k (barred-next n y e)))
-      (or-cases (bad w cs x) (some (barred w cs n) (list-in (remaining w x))) t)
+      let (y, k, e) = some-there (barred w cs n) (found-in (remaining w x)) h in
+      or-right (is-bad w cs x) _ (there-some (barred w cs (suc n)) (found-in (remaining w x)) y k (barred-next n y e)))
+      (or-cases (is-bad w cs x) (some (barred w cs n) (found-in (remaining w x))) t)
 
   barred-back : (n : ℕ) (x y : ModuleVersion) → Requires w x y → barred w cs n y ≡ true → barred w cs (suc n) x ≡ true
   unfolding barred
-  barred-back n x y (ys, e, h) t = or-right (bad w cs x) _ (rw e (there-some (barred w cs n) ys y h t))
+  barred-back n x y (ys, e, h) t = or-right (is-bad w cs x) _ (rw e (there-some (barred w cs n) ys y h t))
 
-  not-bad : (x : ModuleVersion) → bad w cs x ≡ false → (Above cs x → ⊥) × (Gone w x → ⊥)
+  not-bad : (x : ModuleVersion) → is-bad w cs x ≡ false → (Above cs x → ⊥) × (Missing w x → ⊥)
   not-bad x t =
-      let (a, g) = or-parts (above cs x) (is-gone (remaining w x)) t in
-      (λ h. true≢false (sym (test-from-above cs x h) ∙ a), λ (f, e, c). true≢false (sym (ap is-gone e ∙ c) ∙ g))
+      let (a, g) = or-parts (is-above cs x) (is-missing-answer (remaining w x)) t in
+      (λ h. true≢false (sym (test-from-above cs x h) ∙ a), λ (f, e, c). true≢false (sym (ap is-missing-answer e ∙ c) ∙ g))
 
-  unbarred-low : (x : ModuleVersion) → barred w cs 0 x ≡ false → (Above cs x → ⊥) × (Gone w x → ⊥)
+  unbarred-low : (x : ModuleVersion) → barred w cs 0 x ≡ false → (Above cs x → ⊥) × (Missing w x → ⊥)
   unfolding barred
   unbarred-low x t = not-bad x t
 
@@ -176,7 +176,7 @@ module _ (m : Meaning) (s : State) (cs : List ModuleVersion) (ok : lower-walk m 
   stays k still itself h off t = t
   stays k still (through {x} {y} q l) h off t = stays k still l on (required-apart (view m s) x y q) free
     where
-      low : (Above cs x → ⊥) × (Gone (view m s) x → ⊥)
+      low : (Above cs x → ⊥) × (Missing (view m s) x → ⊥)
       low = unbarred-low (view m s) cs x (unbarred-upto (view m s) cs 0 k x (omega arith) t)
 
       on : y ∈ on-sheet
@@ -196,18 +196,18 @@ module _ (m : Meaning) (s : State) (cs : List ModuleVersion) (ok : lower-walk m 
       unbarred-low (view m s) cs y (unbarred-upto (view m s) cs 0 k y (omega arith) free)
 
   -- Any marking of the sheet will do that marks what is bad, and what requires what is marked, and nothing that is allowed.
-  module _ (mark : ModuleVersion → Bool) (marks-bad : (x : ModuleVersion) → x ∈ on-sheet → bad (view m s) cs x ≡ true → mark x ≡ true)
+  module _ (mark : ModuleVersion → Bool) (marks-bad : (x : ModuleVersion) → x ∈ on-sheet → is-bad (view m s) cs x ≡ true → mark x ≡ true)
       (marks-back : (x y : ModuleVersion) → x ∈ on-sheet → (x .path ≡ s .main → ⊥) → Requires (view m s) x y → mark y ≡ true → mark x ≡ true)
       (spares : (x : ModuleVersion) → x ∈ on-sheet → mark x ≡ true → Allowed (view m s) cs x → ⊥) where
-    unmarked-leads : {x y : ModuleVersion} → Leads (view m s) x y → x ∈ on-sheet → (x .path ≡ s .main → ⊥) → mark x ≡ false → (Above cs y → ⊥) × (Gone (view m s) y → ⊥)
+    unmarked-leads : {x y : ModuleVersion} → Leads (view m s) x y → x ∈ on-sheet → (x .path ≡ s .main → ⊥) → mark x ≡ false → (Above cs y → ⊥) × (Missing (view m s) y → ⊥)
     unmarked-leads (itself {x}) h off t = low
       where
-        low : (Above cs x → ⊥) × (Gone (view m s) x → ⊥)
-        low = not-bad (view m s) cs x (⊎-elim (λ b. absurd (true≢false (sym (marks-bad x h b) ∙ t))) (λ b. b) (cases-bool (bad (view m s) cs x)))
+        low : (Above cs x → ⊥) × (Missing (view m s) x → ⊥)
+        low = not-bad (view m s) cs x (⊎-elim (λ b. absurd (true≢false (sym (marks-bad x h b) ∙ t))) (λ b. b) (cases-bool (is-bad (view m s) cs x)))
     unmarked-leads (through {x} {y} q l) h off t = unmarked-leads l on (required-apart (view m s) x y q) free
       where
-        low : (Above cs x → ⊥) × (Gone (view m s) x → ⊥)
-        low = not-bad (view m s) cs x (⊎-elim (λ b. absurd (true≢false (sym (marks-bad x h b) ∙ t))) (λ b. b) (cases-bool (bad (view m s) cs x)))
+        low : (Above cs x → ⊥) × (Missing (view m s) x → ⊥)
+        low = not-bad (view m s) cs x (⊎-elim (λ b. absurd (true≢false (sym (marks-bad x h b) ∙ t))) (λ b. b) (cases-bool (is-bad (view m s) cs x)))
 
         on : y ∈ on-sheet
         on =
@@ -229,13 +229,13 @@ module _ (m : Meaning) (s : State) (cs : List ModuleVersion) (ok : lower-walk m 
         go false e false f = refl
 
     -- so the kept rows are the highest unmarked ones
-    pub kept-rows-unmarked : ((x : ModuleVersion) → x ∈ offered (view m s .layer) cs → x .path ≡ s .main → ⊥) → kept-rows (view m s) cs ≡ table (kept-by (λ x. not (mark x)) (offered (view m s .layer) cs))
+    pub kept-rows-unmarked : ((x : ModuleVersion) → x ∈ offers (view m s .layer) cs → x .path ≡ s .main → ⊥) → kept-rows (view m s) cs ≡ table (kept-by (λ x. not (mark x)) (offers (view m s .layer) cs))
     unfolding kept-rows
     kept-rows-unmarked apart =
-        ap table (kept-same (λ x. not (barred (view m s) cs 257 x)) (λ x. not (mark x)) (offered (view m s .layer) cs)
+        ap table (kept-same (λ x. not (barred (view m s) cs 257 x)) (λ x. not (mark x)) (offers (view m s .layer) cs)
         (λ x h. ap not (sym (marked-is-barred x (start-on m s cs ok x h) (apart x h)))))
 
-  kept-rows-kept : ((x : ModuleVersion) → x ∈ offered (view m s .layer) cs → x .path ≡ s .main → ⊥) → Kept (view m s) cs (kept-rows (view m s) cs)
+  kept-rows-kept : ((x : ModuleVersion) → x ∈ offers (view m s .layer) cs → x .path ≡ s .main → ⊥) → Kept (view m s) cs (kept-rows (view m s) cs)
   unfolding kept-rows
   kept-rows-kept apart = record {
     ascending = table-ascending (kept-by test start);
@@ -244,7 +244,7 @@ module _ (m : Meaning) (s : State) (cs : List ModuleVersion) (ok : lower-walk m 
   }
     where
       start : List ModuleVersion
-      start = offered (view m s .layer) cs
+      start = offers (view m s .layer) cs
 
       test : ModuleVersion → Bool
       test x = not (barred (view m s) cs 257 x)
@@ -256,13 +256,13 @@ kept-once w cs rows more a b =
     (λ x h. let (k, free) = b .allowed x h in a .highest x k free)
 
 module _ (m : Meaning) (s : State) (p v : Bytes) where
-  pub offered-apart : (x : ModuleVersion) → x ∈ offered (view m s .layer) (ceilings-at m s p v) → x .path ≡ s .main → ⊥
-  offered-apart x h q =
-      let (c, k, r) = offered-was (view m s .layer) (ceilings-at m s p v) x h in
+  pub offers-apart : (x : ModuleVersion) → x ∈ offers (view m s .layer) (ceilings-at m s p v) → x .path ≡ s .main → ⊥
+  offers-apart x h q =
+      let (c, k, r) = offers-was (view m s .layer) (ceilings-at m s p v) x h in
       ceilings-apart s p v (old-list m s) (is-list s (list-walk m s .sheet)) c k (r ∙ q)
 
   pub kept : lower-walk m s (ceilings-at m s p v) .end ≡ done → Kept (view m s) (ceilings-at m s p v) (kept-rows (view m s) (ceilings-at m s p v))
-  kept ok = kept-rows-kept m s (ceilings-at m s p v) ok offered-apart
+  kept ok = kept-rows-kept m s (ceilings-at m s p v) ok offers-apart
 
 pub kept-meant : Kept-meant
 kept-meant m s p v ok rows = (

@@ -11,12 +11,12 @@ use Rattle.std.specs.declared.option.Option.the-variants.{Some}
 use Rattle.std.proofs.shelf.Tests.{not-true}
 use Rattle.rules.specs.Orders.{Bytes}
 use Rattle.rules.specs.Names.{ModuleVersion, same-path, has, _∈_, Distinct}
-use Rattle.rules.specs.Sources.{Answer, given, refused, Meaning, narrowed, included}
+use Rattle.rules.specs.Sources.{Answer, found, fault, Meaning, narrowed, included}
 use Rattle.rules.specs.Projects.{State, main-row, off-main, main-requirements, View, view, remaining, Requires, Chain, start, first, onward, Reached}
 use Rattle.rules.specs.Walks.{Place, module-versions, done, list-walk, first-sheet, trail, trail-at}
 use Rattle.rules.proofs.Order.{apart-from-test, not-equal-test, paths}
 use Rattle.rules.proofs.Members.{kept-member, kept-was}
-use Rattle.rules.proofs.Walks.{Begun, begun-of, begun-keeps, begun-grows, begun-holds, begun-answers, begun-distinct, row, nth-left, nth-pushed, nth-within, place-of, Answered}
+use Rattle.rules.proofs.Walks.{Begun, begun-of, begun-keeps, begun-grows, begun-holds, begun-answers, begun-distinct, placed, nth-left, nth-pushed, nth-within, place-of, Answered}
 
 pub off-main-apart : (main : Bytes) (x : ModuleVersion) → not (same-path x main) ≡ true → x .path ≡ main → ⊥
 off-main-apart main x t = apart-from-test paths (x .path) main (not-true _ t)
@@ -25,9 +25,9 @@ off-main-apart main x t = apart-from-test paths (x .path) main (not-true _ t)
 pub required-apart : (w : View) (x y : ModuleVersion) → Requires w x y → y .path ≡ w .main → ⊥
 required-apart w x y (ys, e, h) = go (w .layer .requirements x) e
   where
-    go : (a : Answer (List ModuleVersion)) → narrowed (off-main (w .main)) a ≡ given ys → y .path ≡ w .main → ⊥
-    go (refused f) q = let z : _≡_ {A = ℕ} 0 1 = cc in absurd (omega arith)
-    go (given zs) q =
+    go : (a : Answer (List ModuleVersion)) → narrowed (off-main (w .main)) a ≡ found ys → y .path ≡ w .main → ⊥
+    go (fault f) q = let z : _≡_ {A = ℕ} 0 1 = cc in absurd (omega arith)
+    go (found zs) q =
         let eq : ys ≡ off-main (w .main) zs = cc in
         off-main-apart (w .main) y (kept-was (λ v. not (same-path v (w .main))) zs y (rw eq at h) .1)
 
@@ -101,21 +101,21 @@ module _ (m : Meaning) (s : State) where
   -- the from numbers: a row of the main module came from place 0, and another from a place before its own that requires it
 
   abbrev Came : List Place → ℕ → Place → Type 0
-  Came sheet i r = ((r .from ≡ 0) × (r .of ∈ main-requirements s))
-      ⊎ ((j : ℕ) × (q : Place) × (r .from ≡ suc j) × (j < i) × (nth sheet (suc j) ≡ Some q) × Requires (view m s) (q .of) (r .of))
+  Came sheet i r = ((r .from ≡ 0) × (r .row ∈ main-requirements s))
+      ⊎ ((j : ℕ) × (q : Place) × (r .from ≡ suc j) × (j < i) × (nth sheet (suc j) ≡ Some q) × Requires (view m s) (q .row) (r .row))
 
   abbrev Traced : List Place → Type 0
-  Traced sheet = (nth sheet 0 ≡ Some (row (main-row s) 0)) × ((i : ℕ) (r : Place) → nth sheet (suc i) ≡ Some r → Came sheet i r)
+  Traced sheet = (nth sheet 0 ≡ Some (placed (main-row s) 0)) × ((i : ℕ) (r : Place) → nth sheet (suc i) ≡ Some r → Came sheet i r)
 
   -- it stays so where a place is appended that came so
-  traced-on : (sheet : List Place) (x : ModuleVersion) (k : ℕ) → Traced sheet → ((i : ℕ) → suc i ≡ length sheet → Came (sheet ++ row x k ∷ []) i (row x k)) → Traced (sheet ++ row x k ∷ [])
+  traced-on : (sheet : List Place) (x : ModuleVersion) (k : ℕ) → Traced sheet → ((i : ℕ) → suc i ≡ length sheet → Came (sheet ++ placed x k ∷ []) i (placed x k)) → Traced (sheet ++ placed x k ∷ [])
   traced-on sheet x k (main, old) new = (
-    nth-left sheet (row x k ∷ []) 0 (row (main-row s) 0) main,
+    nth-left sheet (placed x k ∷ []) 0 (placed (main-row s) 0) main,
     λ i r e.
         ⊎-elim
-        (λ g. ⊎-elim (λ h. inl h) (λ (j, q, f, l, n, h). inr (j, q, f, l, nth-left sheet (row x k ∷ []) (suc j) q n, h)) (old i r g))
-        (λ (g, same). subst (Came (sheet ++ row x k ∷ []) i) same (new i g))
-        (nth-pushed sheet (row x k) (suc i) r e),
+        (λ g. ⊎-elim (λ h. inl h) (λ (j, q, f, l, n, h). inr (j, q, f, l, nth-left sheet (placed x k ∷ []) (suc j) q n, h)) (old i r g))
+        (λ (g, same). subst (Came (sheet ++ placed x k ∷ []) i) same (new i g))
+        (nth-pushed sheet (placed x k) (suc i) r e),
   )
 
   traced : Traced (list-walk m s .sheet)
@@ -126,55 +126,55 @@ module _ (m : Meaning) (s : State) where
       list-begun
       (refl, λ i r e. let z : _≡_ {A = ℕ} 0 1 = cc in absurd (omega arith))
     where
-      from-place : (k : ℕ) (sheet : List Place) (r : Place) (ys : List ModuleVersion) (x : ModuleVersion) → 1 ≤ k → nth sheet k ≡ Some r → remaining (view m s) (r .of) ≡ given ys → x ∈ ys
+      from-place : (k : ℕ) (sheet : List Place) (r : Place) (ys : List ModuleVersion) (x : ModuleVersion) → 1 ≤ k → nth sheet k ≡ Some r → remaining (view m s) (r .row) ≡ found ys → x ∈ ys
           → (i : ℕ) → suc i ≡ length sheet
-          → (j : ℕ) × (q : Place) × (k ≡ suc j) × (j < i) × (nth (sheet ++ row x k ∷ []) (suc j) ≡ Some q) × Requires (view m s) (q .of) x
+          → (j : ℕ) × (q : Place) × (k ≡ suc j) × (j < i) × (nth (sheet ++ placed x k ∷ []) (suc j) ≡ Some q) × Requires (view m s) (q .row) x
       from-place zero sheet r ys x l n a h i g = absurd (omega arith)
       from-place (suc j) sheet r ys x l n a h i g =
-          (j, r, refl, omega (arith, nth-within sheet (suc j) r n), nth-left sheet (row x (suc j) ∷ []) (suc j) r n, (ys, a, h))
+          (j, r, refl, omega (arith, nth-within sheet (suc j) r n), nth-left sheet (placed x (suc j) ∷ []) (suc j) r n, (ys, a, h))
 
   -- on any slice that has the sheet's places the from numbers lead back along a chain
   module _ (slice : List Place) (on : (i : ℕ) (r : Place) → nth (list-walk m s .sheet) i ≡ Some r → nth slice i ≡ Some r) where
     trail-main : (left : ℕ) → trail (suc left) slice 0 ≡ main-row s ∷ []
     unfolding trail
-    trail-main left = ap (trail-at (trail left slice) 0) (on 0 (row (main-row s) 0) (traced .0))
+    trail-main left = ap (trail-at (trail left slice) 0) (on 0 (placed (main-row s) 0) (traced .0))
 
     pub trail-leads : (left place : ℕ) (r : Place) → suc place < left → nth (list-walk m s .sheet) (suc place) ≡ Some r
-        → (z : ModuleVersion) × (xs : List ModuleVersion) × (trail left slice (suc place) ≡ r .of ∷ z ∷ xs) × Chain m s (r .of ∷ z ∷ xs)
+        → (z : ModuleVersion) × (xs : List ModuleVersion) × (trail left slice (suc place) ≡ r .row ∷ z ∷ xs) × Chain m s (r .row ∷ z ∷ xs)
     unfolding trail
     trail-leads zero place r h n = absurd (omega arith)
     trail-leads (suc zero) place r h n = absurd (omega arith)
     trail-leads (suc (suc left)) place r h n = go (λ j q. trail-leads (suc left) j q) (traced .1 place r n)
       where
-        at-place : trail (suc (suc left)) slice (suc place) ≡ r .of ∷ trail (suc left) slice (r .from)
+        at-place : trail (suc (suc left)) slice (suc place) ≡ r .row ∷ trail (suc left) slice (r .from)
         at-place = ap (trail-at (trail (suc left) slice) (suc place)) (on (suc place) r n)
 
         go : ((j : ℕ) (q : Place) → suc j < suc left → nth (list-walk m s .sheet) (suc j) ≡ Some q
-            → (z : ModuleVersion) × (xs : List ModuleVersion) × (trail (suc left) slice (suc j) ≡ q .of ∷ z ∷ xs) × Chain m s (q .of ∷ z ∷ xs))
+            → (z : ModuleVersion) × (xs : List ModuleVersion) × (trail (suc left) slice (suc j) ≡ q .row ∷ z ∷ xs) × Chain m s (q .row ∷ z ∷ xs))
             → Came (list-walk m s .sheet) place r
-            → (z : ModuleVersion) × (xs : List ModuleVersion) × (trail (suc (suc left)) slice (suc place) ≡ r .of ∷ z ∷ xs) × Chain m s (r .of ∷ z ∷ xs)
-        go back (inl (f, k)) = (main-row s, [], at-place ∙ ap (λ i. r .of ∷ trail (suc left) slice i) f ∙ ap (λ xs. r .of ∷ xs) (trail-main left), first k)
+            → (z : ModuleVersion) × (xs : List ModuleVersion) × (trail (suc (suc left)) slice (suc place) ≡ r .row ∷ z ∷ xs) × Chain m s (r .row ∷ z ∷ xs)
+        go back (inl (f, k)) = (main-row s, [], at-place ∙ ap (λ i. r .row ∷ trail (suc left) slice i) f ∙ ap (λ xs. r .row ∷ xs) (trail-main left), first k)
         go back (inr (j, q, f, l, nq, k)) =
             let (z, xs, t, c) = back j q (omega arith) nq in
-            (q .of, z ∷ xs, at-place ∙ ap (λ i. r .of ∷ trail (suc left) slice i) f ∙ ap (λ ys. r .of ∷ ys) t, onward c k)
+            (q .row, z ∷ xs, at-place ∙ ap (λ i. r .row ∷ trail (suc left) slice i) f ∙ ap (λ ys. r .row ∷ ys) t, onward c k)
 
   -- a place after the main one has its chain
-  pub place-reached : (i : ℕ) (r : Place) → nth (list-walk m s .sheet) (suc i) ≡ Some r → (z : ModuleVersion) × (xs : List ModuleVersion) × Chain m s (r .of ∷ z ∷ xs)
+  pub place-reached : (i : ℕ) (r : Place) → nth (list-walk m s .sheet) (suc i) ≡ Some r → (z : ModuleVersion) × (xs : List ModuleVersion) × Chain m s (r .row ∷ z ∷ xs)
   place-reached i r n = let (z, xs, t, c) = trail-leads (list-walk m s .sheet) (λ j q e. e) (suc (suc i)) i r (omega arith) n in (z, xs, c)
 
   pub sheet-reached : (x : ModuleVersion) → x ∈ module-versions (list-walk m s .sheet) → Reached m s x
   sheet-reached x h = go (place-of (list-walk m s .sheet) x h)
     where
-      go : (i : ℕ) × (r : Place) × (nth (list-walk m s .sheet) i ≡ Some r) × (x ≡ r .of) → Reached m s x
-      go (zero, r, n, e) = let same : row (main-row s) 0 ≡ r = cc (traced .0) in subst (Reached m s) (ap (λ v. v .of) same ∙ sym e) reached-main
+      go : (i : ℕ) × (r : Place) × (nth (list-walk m s .sheet) i ≡ Some r) × (x ≡ r .row) → Reached m s x
+      go (zero, r, n, e) = let same : placed (main-row s) 0 ≡ r = cc (traced .0) in subst (Reached m s) (ap (λ v. v .row) same ∙ sym e) reached-main
       go (suc i, r, n, e) = let (z, xs, c) = place-reached i r n in subst (Reached m s) (sym e) (z ∷ xs, c)
 
   module _ (ok : list-walk m s .end ≡ done) where
     sheet-answered : (x : ModuleVersion) → x ∈ module-versions (list-walk m s .sheet) → (x .path ≡ s .main → ⊥) → Answered (remaining (view m s)) x (list-walk m s .sheet)
     sheet-answered x h off = go (place-of (list-walk m s .sheet) x h)
       where
-        go : (i : ℕ) × (r : Place) × (nth (list-walk m s .sheet) i ≡ Some r) × (x ≡ r .of) → Answered (remaining (view m s)) x (list-walk m s .sheet)
-        go (zero, r, n, e) = let same : row (main-row s) 0 ≡ r = cc (traced .0) in absurd (off (ap (λ v. v .path) (e ∙ ap (λ v. v .of) (sym same))))
+        go : (i : ℕ) × (r : Place) × (nth (list-walk m s .sheet) i ≡ Some r) × (x ≡ r .row) → Answered (remaining (view m s)) x (list-walk m s .sheet)
+        go (zero, r, n, e) = let same : placed (main-row s) 0 ≡ r = cc (traced .0) in absurd (off (ap (λ v. v .path) (e ∙ ap (λ v. v .row) (sym same))))
         go (suc i, r, n, e) = rw e (begun-answers (remaining (view m s)) (main-requirements s) (first-sheet s) list-begun ok (suc i) r (omega arith) n)
 
     pub reached-sheet : (x : ModuleVersion) → Reached m s x → x ∈ module-versions (list-walk m s .sheet)
@@ -187,5 +187,5 @@ module _ (m : Meaning) (s : State) where
         on y (rw same at k))
 
     -- each but the main module has its list
-    pub reached-given : (x : ModuleVersion) → Reached m s x → (x .path ≡ s .main → ⊥) → (xs : List ModuleVersion) × (remaining (view m s) x ≡ given xs)
-    reached-given x r off = let (xs, a, on) = sheet-answered x (reached-sheet x r) off in (xs, a)
+    pub reached-found : (x : ModuleVersion) → Reached m s x → (x .path ≡ s .main → ⊥) → (xs : List ModuleVersion) × (remaining (view m s) x ≡ found xs)
+    reached-found x r off = let (xs, a, on) = sheet-answered x (reached-sheet x r) off in (xs, a)

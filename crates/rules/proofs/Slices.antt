@@ -15,15 +15,15 @@ use Rattle.rules.specs.Paths.{path-order}
 use Rattle.rules.specs.Names.{ModuleVersion, same-path, _∈_, Distinct}
 use Rattle.rules.specs.Sources.{Meaning}
 use Rattle.rules.specs.Projects.{State, main-row, off-main, main-requirements, view, remaining}
-use Rattle.rules.specs.Walks.{Place, module-versions, done, full, list-walk, first-sheet}
+use Rattle.rules.specs.Walks.{Place, module-versions, done, no-room, list-walk, first-sheet}
 use Rattle.rules.specs.Rows.{path-of, table}
 use Rattle.rules.specs.Lists.{list-of}
-use Rattle.rules.specs.Slices.{blank-place, Lent, wide, filled}
+use Rattle.rules.specs.Slices.{blank-place, Lent, long-enough, filled}
 use Rattle.rules.proofs.Order.{paths}
 use Rattle.rules.proofs.Members.{kept-was, distinct-length}
 use Rattle.rules.proofs.Tables.{ascending-distinct}
 use Rattle.rules.proofs.Rows.{table-was, table-ascending}
-use Rattle.rules.proofs.Walks.{begun-room, begun-full, nth-left}
+use Rattle.rules.proofs.Walks.{begun-room, begun-no-room, nth-left}
 use Rattle.rules.proofs.Reached.{off-main-apart, list-begun, main-on-sheet}
 use Rattle.rules.proofs.Faults.{length-module-versions}
 
@@ -42,20 +42,20 @@ first-was (suc n) (r ∷ rs) x (inr h) = inr (first-was n rs x h)
 pub first-distinct : (n : ℕ) (sheet : List Place) → Distinct (module-versions sheet) → Distinct (module-versions (take n sheet))
 first-distinct zero sheet d = tt
 first-distinct (suc n) [] d = tt
-first-distinct (suc n) (r ∷ rs) d = (λ h. d .0 (first-was n rs (r .of) h), first-distinct n rs (d .1))
+first-distinct (suc n) (r ∷ rs) d = (λ h. d .0 (first-was n rs (r .row) h), first-distinct n rs (d .1))
 
-pub wide-sheet : (n : Lent) → wide n ≡ true → 256 ≤ n .sheet
-wide-sheet n w = leb-true 256 (n .sheet) (and-parts (leb 256 (n .sheet)) (leb 256 (n .list)) w .0)
+pub long-sheet : (n : Lent) → long-enough n ≡ true → 256 ≤ n .sheet
+long-sheet n w = leb-true 256 (n .sheet) (and-parts (leb 256 (n .sheet)) (leb 256 (n .list)) w .0)
 
-pub wide-list : (n : Lent) → wide n ≡ true → 256 ≤ n .list
-wide-list n w = leb-true 256 (n .list) (and-parts (leb 256 (n .sheet)) (leb 256 (n .list)) w .1)
+pub long-list : (n : Lent) → long-enough n ≡ true → 256 ≤ n .list
+long-list n w = leb-true 256 (n .list) (and-parts (leb 256 (n .sheet)) (leb 256 (n .list)) w .1)
 
 module _ (m : Meaning) (s : State) where
-  pub sheet-room : (list-walk m s .end ≡ full → ⊥) → length (list-walk m s .sheet) ≤ 256
+  pub sheet-room : (list-walk m s .end ≡ no-room → ⊥) → length (list-walk m s .sheet) ≤ 256
   sheet-room = begun-room (remaining (view m s)) (main-requirements s) (first-sheet s) (list-begun m s)
 
-  pub full-256 : list-walk m s .end ≡ full → length (take 256 (list-walk m s .sheet)) ≡ 256
-  full-256 e = omega (arith, length-take 256 (list-walk m s .sheet), begun-full (remaining (view m s)) (main-requirements s) (first-sheet s) (list-begun m s) e)
+  pub no-room-256 : list-walk m s .end ≡ no-room → length (take 256 (list-walk m s .sheet)) ≡ 256
+  no-room-256 e = omega (arith, length-take 256 (list-walk m s .sheet), begun-no-room (remaining (view m s)) (main-requirements s) (first-sheet s) (list-begun m s) e)
 
   -- each row of the list is on the sheet, and none twice
   pub list-room : list-walk m s .end ≡ done → length (list-of s (list-walk m s .sheet)) ≤ 256
@@ -79,7 +79,7 @@ module _ (m : Meaning) (s : State) where
       on x (inr h) = sheet-row x h .0
 
   -- the slice has the sheet's places
-  pub on-slice : (n : ℕ) → (list-walk m s .end ≡ full → ⊥) → (i : ℕ) (r : Place) → nth (list-walk m s .sheet) i ≡ Some r
+  pub on-slice : (n : ℕ) → (list-walk m s .end ≡ no-room → ⊥) → (i : ℕ) (r : Place) → nth (list-walk m s .sheet) i ≡ Some r
       → nth (filled blank-place n (take 256 (list-walk m s .sheet))) i ≡ Some r
   on-slice n room i r e =
       nth-left (take 256 (list-walk m s .sheet)) (replicate (n - length (take 256 (list-walk m s .sheet))) blank-place) i r

@@ -20,10 +20,10 @@ use Rattle.rules.specs.Rows.{own, path-of, higher, Ascending-rows, row-of, wit
 use Rattle.rules.specs.Causes.{Cause, nothing-to-change, table-full, slice-too-short}
 use Rattle.rules.specs.Sources.{Meaning}
 use Rattle.rules.specs.Projects.{State, view}
-use Rattle.rules.specs.Walks.{module-versions, End, done, stopped, full, list-walk}
+use Rattle.rules.specs.Walks.{module-versions, End, done, stopped, no-room, list-walk}
 use Rattle.rules.specs.Lowers.{can-lower, with-rows, lower-walk, kept-rows, old-list, ceilings-at}
-use Rattle.rules.specs.Slices.{Lent, wide, holding}
-use Rattle.rules.specs.Calls.{manifest, unread, Call, load, raise, drop, exclude, lower, list, refused-for, Outcome, plainly, refuses, unless, with-exclusions, raised, dropped, excluded, if-done, if-wide, listing, nothing-lower, lowering, lowers, does}
+use Rattle.rules.specs.Slices.{Lent, long-enough, holding}
+use Rattle.rules.specs.Calls.{manifest, unread, Call, load, raise, drop, exclude, lower, list, refused, Outcome, refusal-for, refuses, unless, with-exclusions, raised, dropped, excluded, if-done, if-wide, lists, lowers-nothing, lowers-by, lowers, does}
 use Rattle.rules.specs.Runs.{after, fresh, Tidy, In-bounds, Tidy-right}
 use Rattle.rules.proofs.Order.{paths}
 use Rattle.rules.proofs.Order as order
@@ -37,7 +37,7 @@ use Rattle.rules.proofs.Marks.{kept}
 -- the calls
 
 with-rows-tidy : (s : State) (rows : List ModuleVersion) → Tidy s → Ascending-rows rows → length rows ≤ 256 → Tidy (with-rows s rows)
-with-rows-tidy s rows t a h = record { ascending = a; in-order = t .in-order; few-rows = h; few-exclusions = t .few-exclusions }
+with-rows-tidy s rows t a h = record { rows-ascend = a; exclusions-ascend = t .exclusions-ascend; few-rows = h; few-exclusions = t .few-exclusions }
 
 unless-tidy : (test : Bool) (c : Cause) (s new : State) → Tidy s → (test ≡ false → Tidy new) → Tidy (unless test c s new .state)
 unless-tidy true c s new t h = t
@@ -47,15 +47,15 @@ raised-tidy : (s : State) (x : ModuleVersion) (o : Option ModuleVersion) → row
 raised-tidy s x (Some y) e t =
     unless-tidy (isLe (version-order (x .version) (y .version))) nothing-to-change s (with-rows s (with-row x (s .rows))) t
     (λ f. let (h, p) = lookup-there path-of path-order paths (x .path) (s .rows) y e in
-    with-rows-tidy s (with-row x (s .rows)) t (with-row-ascending x (s .rows) (t .ascending))
-    (omega (arith, entered-old path-of path-order paths higher x (s .rows) (t .ascending) (y, h, p), t .few-rows)))
+    with-rows-tidy s (with-row x (s .rows)) t (with-row-ascending x (s .rows) (t .rows-ascend))
+    (omega (arith, entered-old path-of path-order paths higher x (s .rows) (t .rows-ascend) (y, h, p), t .few-rows)))
 raised-tidy s x None e t =
     unless-tidy (leb 256 (length (s .rows))) table-full s (with-rows s (with-row x (s .rows))) t
-    (λ f. with-rows-tidy s (with-row x (s .rows)) t (with-row-ascending x (s .rows) (t .ascending)) (omega (arith, entered-most path-of path-order higher x (s .rows), leb-false 256 (length (s .rows)) f)))
+    (λ f. with-rows-tidy s (with-row x (s .rows)) t (with-row-ascending x (s .rows) (t .rows-ascend)) (omega (arith, entered-most path-of path-order higher x (s .rows), leb-false 256 (length (s .rows)) f)))
 
 dropped-tidy : (s : State) (p : Bytes) (o : Option ModuleVersion) → Tidy s → Tidy (dropped s p o .state)
 dropped-tidy s p (Some y) t =
-    with-rows-tidy s (without-row p (s .rows)) t (removed-ascending path-of path-order paths p (s .rows) (t .ascending))
+    with-rows-tidy s (without-row p (s .rows)) t (removed-ascending path-of path-order paths p (s .rows) (t .rows-ascend))
     (omega (arith, removed-most path-of path-order p (s .rows), t .few-rows))
 dropped-tidy s p None t = t
 
@@ -65,26 +65,26 @@ excluded-tidy s x t = go (has (s .exclusions) x)
     more : Outcome
     more = unless (leb 32 (length (s .exclusions))) table-full s (with-exclusions s (with-exclusion x (s .exclusions)))
 
-    go : (b : Bool) → Tidy (cond b (refuses s (plainly nothing-to-change)) more .state)
+    go : (b : Bool) → Tidy (cond b (refuses s (refusal-for nothing-to-change)) more .state)
     go true = t
     go false =
         unless-tidy (leb 32 (length (s .exclusions))) table-full s (with-exclusions s (with-exclusion x (s .exclusions))) t
         (λ f. record {
-          ascending = t .ascending;
-          in-order = entered-keep-ascending own module-order order.module-versions x (s .exclusions) (t .in-order);
+          rows-ascend = t .rows-ascend;
+          exclusions-ascend = entered-keep-ascending own module-order order.module-versions x (s .exclusions) (t .exclusions-ascend);
           few-rows = t .few-rows;
           few-exclusions = omega (arith, entered-most own module-order keep x (s .exclusions), leb-false 32 (length (s .exclusions)) f);
         })
 
 wide-tidy : (n : Lent) (s : State) (o : Outcome) → Tidy s → Tidy (o .state) → Tidy (if-wide n s o .state)
-wide-tidy n s o t h = go (wide n)
+wide-tidy n s o t h = go (long-enough n)
   where
-    go : (b : Bool) → Tidy (cond b o (record { reply = refused-for (plainly slice-too-short); state = s; slices = holding n [] [] }) .state)
+    go : (b : Bool) → Tidy (cond b o (record { reply = refused (refusal-for slice-too-short); state = s; slices = holding n [] [] }) .state)
     go true = h
     go false = t
 
 module _ (m : Meaning) (s : State) (t : Tidy s) where
-  lowering-tidy : (p v : Bytes) (n : Lent) → Tidy (lowering m s n (ceilings-at m s p v) .state)
+  lowering-tidy : (p v : Bytes) (n : Lent) → Tidy (lowers-by m s n (ceilings-at m s p v) .state)
   lowering-tidy p v n = go (lower-walk m s cs .end) refl
     where
       cs : List ModuleVersion
@@ -96,28 +96,28 @@ module _ (m : Meaning) (s : State) (t : Tidy s) where
           let few = distinct-length (kept-rows (view m s) cs) (module-versions (lower-walk m s cs .sheet)) (ascending-distinct path-of path-order paths (kept-rows (view m s) cs) (k .ascending)) (λ x h. start-on m s cs ok x (k .allowed x h .0)) in
           with-rows-tidy s (kept-rows (view m s) cs) t (k .ascending) (omega (arith, few, length-module-versions (lower-walk m s cs .sheet), few-rows m s cs ok))
       go (stopped k f) ok = t
-      go full ok = t
+      go no-room ok = t
 
   lowers-tidy : (p v : Bytes) (n : Lent) → Tidy (lowers m s p v n .state)
   lowers-tidy p v n = by-list (list-walk m s .end)
     where
       chosen : Bool → Outcome
-      chosen b = cond b (lowering m s n (ceilings-at m s p v)) (nothing-lower m s n)
+      chosen b = cond b (lowers-by m s n (ceilings-at m s p v)) (lowers-nothing m s n)
 
       by-test : (b : Bool) → Tidy (chosen b .state)
       by-test true = lowering-tidy p v n
       by-test false = t
 
-      by-list : (e : End) → Tidy (if-done e (chosen (can-lower p v (old-list m s))) (listing m s n) .state)
+      by-list : (e : End) → Tidy (if-done e (chosen (can-lower p v (old-list m s))) (lists m s n) .state)
       by-list done = by-test (can-lower p v (old-list m s))
       by-list (stopped k f) = t
-      by-list full = t
+      by-list no-room = t
 
   does-tidy : (c : Call) → In-bounds c → Tidy (does m s c .state)
   unfolding does
   does-tidy (load (manifest r)) (few, fewer) = record {
-    ascending = table-ascending (r .requires);
-    in-order = joined-ascending own module-order order.module-versions [] (r .excludes) tt;
+    rows-ascend = table-ascending (r .requires);
+    exclusions-ascend = joined-ascending own module-order order.module-versions [] (r .excludes) tt;
     few-rows = omega (arith, few, entered-all-most path-of path-order higher [] (r .requires));
     few-exclusions = omega (arith, fewer, entered-all-most own module-order keep [] (r .excludes));
   }
@@ -126,11 +126,11 @@ module _ (m : Meaning) (s : State) (t : Tidy s) where
   does-tidy (drop p) b = dropped-tidy s p (row-of p (s .rows)) t
   does-tidy (exclude x) b = excluded-tidy s x t
   does-tidy (lower p v n) b = wide-tidy n s (lowers m s p v n) t (lowers-tidy p v n)
-  does-tidy (list n) b = wide-tidy n s (listing m s n) t t
+  does-tidy (list n) b = wide-tidy n s (lists m s n) t t
 
 after-tidy : (m : Meaning) (s : State) (calls : List Call) → Tidy s → All In-bounds calls → Tidy (after m s calls)
 after-tidy m s [] t b = t
 after-tidy m s (c ∷ cs) t b = after-tidy m (does m s c .state) cs (does-tidy m s t c (b .0)) (b .1)
 
 pub tidy-right : Tidy-right
-tidy-right m calls b = after-tidy m fresh calls (record { ascending = tt; in-order = tt; few-rows = omega arith; few-exclusions = omega arith }) b
+tidy-right m calls b = after-tidy m fresh calls (record { rows-ascend = tt; exclusions-ascend = tt; few-rows = omega arith; few-exclusions = omega arith }) b

@@ -15,9 +15,9 @@ use Rattle.rules.specs.Rows.{row-of, with-row, without-row, table, with-exclus
 use Rattle.rules.specs.Causes.{Cause, slice-too-short, too-many-module-versions, table-full, nothing-to-change, Fault, Refusal}
 use Rattle.rules.specs.Sources.{Meaning}
 use Rattle.rules.specs.Projects.{State, view}
-use Rattle.rules.specs.Walks.{End, done, stopped, full, list-walk}
+use Rattle.rules.specs.Walks.{End, done, stopped, no-room, list-walk}
 use Rattle.rules.specs.Lowers.{can-lower, with-rows, lower-walk, kept-rows, old-list, ceilings-at}
-use Rattle.rules.specs.Slices.{Lent, wide, Slices, holding}
+use Rattle.rules.specs.Slices.{Lent, long-enough, Slices, holding}
 
 -- what a manifest's text says
 pub record Manifest : Type 0 where
@@ -42,7 +42,7 @@ pub data Reply : Type 0 where
   accepted : Reply
   -- accepted, with the number of places on the sheet and of rows on the list
   counted : ℕ → ℕ → Reply
-  refused-for : Refusal → Reply
+  refused : Refusal → Reply
 
 pub record Outcome : Type 0 where
   pub reply : Reply
@@ -52,12 +52,12 @@ pub record Outcome : Type 0 where
 -- refusals
 
 -- where the cause says all
-abbrev pub plainly : Cause → Refusal
-plainly c = record { cause = c; place = 0; depth = 0; sheet-place = 0 }
+abbrev pub refusal-for : Cause → Refusal
+refusal-for c = record { cause = c; place = 0; depth = 0; sheet-place = 0 }
 
 -- a fault that a place of the sheet brought
-abbrev pub brought : ℕ → Fault → Refusal
-brought k f = record { cause = f .cause; place = f .place; depth = f .depth; sheet-place = k }
+abbrev pub refusal-at : ℕ → Fault → Refusal
+refusal-at k f = record { cause = f .cause; place = f .place; depth = f .depth; sheet-place = k }
 
 -- calls that are lent no slices
 
@@ -65,11 +65,11 @@ abbrev pub accepts : State → Outcome
 accepts s = record { reply = accepted; state = s; slices = record { sheet = []; list = [] } }
 
 abbrev pub refuses : State → Refusal → Outcome
-refuses s r = record { reply = refused-for r; state = s; slices = record { sheet = []; list = [] } }
+refuses s r = record { reply = refused r; state = s; slices = record { sheet = []; list = [] } }
 
 -- refused if the test says so, and else the new state
 abbrev pub unless : Bool → Cause → State → State → Outcome
-unless test c s new = cond test (refuses s (plainly c)) (accepts new)
+unless test c s new = cond test (refuses s (refusal-for c)) (accepts new)
 
 abbrev pub with-exclusions : State → List ModuleVersion → State
 with-exclusions s es = record { main = s .main; rows = s .rows; exclusions = es }
@@ -84,11 +84,11 @@ raised s x None = unless (leb 256 (length (s .rows))) table-full s (with-rows s 
 
 abbrev pub dropped : State → Bytes → Option ModuleVersion → Outcome
 dropped s p (Some y) = accepts (with-rows s (without-row p (s .rows)))
-dropped s p None = refuses s (plainly nothing-to-change)
+dropped s p None = refuses s (refusal-for nothing-to-change)
 
 abbrev pub excluded : State → ModuleVersion → Outcome
 excluded s x =
-    cond (has (s .exclusions) x) (refuses s (plainly nothing-to-change))
+    cond (has (s .exclusions) x) (refuses s (refusal-for nothing-to-change))
     (unless (leb 32 (length (s .exclusions))) table-full s (with-exclusions s (with-exclusion x (s .exclusions))))
 
 -- list and lower
@@ -96,33 +96,33 @@ excluded s x =
 -- what a walk's end answers
 abbrev pub replied : End → ℕ → ℕ → Reply
 replied done places rows = counted places rows
-replied (stopped k f) places rows = refused-for (brought k f)
-replied full places rows = refused-for (plainly too-many-module-versions)
+replied (stopped k f) places rows = refused (refusal-at k f)
+replied no-room places rows = refused (refusal-for too-many-module-versions)
 
 abbrev pub if-done : {A : Type 0} → End → A → A → A
 if-done done a b = a
 if-done (stopped k f) a b = b
-if-done full a b = b
+if-done no-room a b = b
 
 -- refused, with both slices blank, if one of them is too short
 abbrev pub if-wide : Lent → State → Outcome → Outcome
-if-wide n s o = cond (wide n) o (record { reply = refused-for (plainly slice-too-short); state = s; slices = holding n [] [] })
+if-wide n s o = cond (long-enough n) o (record { reply = refused (refusal-for slice-too-short); state = s; slices = holding n [] [] })
 
 module _ (m : Meaning) (s : State) where
-  abbrev pub listing : Lent → Outcome
-  listing n = record {
+  abbrev pub lists : Lent → Outcome
+  lists n = record {
     reply = replied (list-walk m s .end) (length (list-walk m s .sheet)) (length (old-list m s));
     state = s;
     slices = holding n (list-walk m s .sheet) (if-done (list-walk m s .end) (old-list m s) []);
   }
 
   -- the list is given, but there is nothing to lower
-  abbrev pub nothing-lower : Lent → Outcome
-  nothing-lower n = record { reply = refused-for (plainly nothing-to-change); state = s; slices = listing n .slices }
+  abbrev pub lowers-nothing : Lent → Outcome
+  lowers-nothing n = record { reply = refused (refusal-for nothing-to-change); state = s; slices = lists n .slices }
 
   -- by lower's own walk; the list slice holds the old list
-  abbrev pub lowering : Lent → List ModuleVersion → Outcome
-  lowering n cs = record {
+  abbrev pub lowers-by : Lent → List ModuleVersion → Outcome
+  lowers-by n cs = record {
     reply = replied (lower-walk m s cs .end) (length (lower-walk m s cs .sheet)) (length (old-list m s));
     state = if-done (lower-walk m s cs .end) (with-rows s (kept-rows (view m s) cs)) s;
     slices = holding n (lower-walk m s cs .sheet) (old-list m s);
@@ -130,7 +130,7 @@ module _ (m : Meaning) (s : State) where
 
   -- list's refusals come first
   abbrev pub lowers : Bytes → Bytes → Lent → Outcome
-  lowers p v n = if-done (list-walk m s .end) (cond (can-lower p v (old-list m s)) (lowering n (ceilings-at m s p v)) (nothing-lower n)) (listing n)
+  lowers p v n = if-done (list-walk m s .end) (cond (can-lower p v (old-list m s)) (lowers-by n (ceilings-at m s p v)) (lowers-nothing n)) (lists n)
 
   -- what a call does
   unfoldable pub does : Call → Outcome
@@ -139,4 +139,4 @@ module _ (m : Meaning) (s : State) where
   does (drop p) = dropped s p (row-of p (s .rows))
   does (exclude x) = excluded s x
   does (lower p v n) = if-wide n s (lowers p v n)
-  does (list n) = if-wide n s (listing n)
+  does (list n) = if-wide n s (lists n)

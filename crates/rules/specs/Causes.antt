@@ -14,7 +14,7 @@ pub data Cause : Type 0 where
   module-line : Cause
   row-too-many : Cause
   -- of a source: there is no such manifest
-  absent : Cause
+  missing : Cause
   damaged-buffer : Cause
   too-many-to-list : Cause
   -- of a call
@@ -33,7 +33,7 @@ number bad-path = 4
 number bad-version = 5
 number module-line = 6
 number row-too-many = 7
-number absent = 8
+number missing = 8
 number damaged-buffer = 9
 number too-many-to-list = 10
 number slice-too-short = 11
@@ -43,7 +43,7 @@ number nothing-to-change = 14
 
 -- the causes that say that a module version is missing: a fallback then asks its other source, and lower goes on
 abbrev pub is-missing : Cause → Bool
-is-missing c = eqb (number c) (number absent)
+is-missing c = eqb (number c) (number missing)
 
 -- why a source refuses an answer: the cause, the place it speaks of, and how many layers down it arose
 pub record Fault : Type 0 where

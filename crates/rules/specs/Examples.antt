@@ -11,27 +11,27 @@ use Rattle.std.specs.declared.cmp.Ordering.the-variants.{Less}
 use Rattle.rules.specs.Orders.{Bytes}
 use Rattle.rules.specs.Versions.{is-version, version-order}
 use Rattle.rules.specs.Names.{ModuleVersion, same, same-path}
-use Rattle.rules.specs.Causes.{absent, damaged-buffer, nothing-to-change, slice-too-short, too-many-module-versions, bad-version, Fault}
-use Rattle.rules.specs.Sources.{Answer, given, refused, Meaning, at, not-there, falling-back}
+use Rattle.rules.specs.Causes.{missing, damaged-buffer, nothing-to-change, slice-too-short, too-many-module-versions, bad-version, Fault}
+use Rattle.rules.specs.Sources.{Answer, found, fault, Meaning, at, missing-here, falling-back}
 use Rattle.rules.specs.Walks.{Place}
 use Rattle.rules.specs.Slices.{blank, Lent}
-use Rattle.rules.specs.Calls.{Call, manifest, unread, load, raise, drop, exclude, lower, list, Reply, accepted, counted, refused-for, Outcome, plainly}
+use Rattle.rules.specs.Calls.{Call, manifest, unread, load, raise, drop, exclude, lower, list, Reply, accepted, counted, refused, Outcome, refusal-for}
 use Rattle.rules.specs.Runs.{outcome}
 
 -- a source that is written out: each module version with its requirements, the versions of a path ascending
 abbrev pub Book : Type 0
 Book = List (ModuleVersion × List ModuleVersion)
 
-abbrev pub found : Book → ModuleVersion → Answer (List ModuleVersion)
-found [] x = refused not-there
-found (e ∷ es) x = cond (same x (e .0)) (given (e .1)) (found es x)
+abbrev pub entry-of : Book → ModuleVersion → Answer (List ModuleVersion)
+entry-of [] x = fault missing-here
+entry-of (e ∷ es) x = cond (same x (e .0)) (found (e .1)) (entry-of es x)
 
 abbrev pub versions : Book → Bytes → List Bytes
 versions [] p = []
 versions (e ∷ es) p = cond (same-path (e .0) p) (e .0 .version ∷ []) [] ++ versions es p
 
 abbrev pub book : Book → Meaning
-book es = record { requirements = found es; listing = λ p. given (versions es p) }
+book es = record { requirements = entry-of es; listing = λ p. found (versions es p) }
 
 -- a network of conduits
 
@@ -87,15 +87,15 @@ worn = record { cause = damaged-buffer; place = 5; depth = 0 }
 
 -- it lists nothing
 abbrev pub unlisting : Meaning
-unlisting = record { requirements = found network; listing = λ p. refused worn }
+unlisting = record { requirements = entry-of network; listing = λ p. fault worn }
 
 -- it lists outfall alone
 abbrev pub half-listing : Meaning
-half-listing = record { requirements = found network; listing = λ p. cond (same-path outfall1 p) (given (versions network p)) (refused worn) }
+half-listing = record { requirements = entry-of network; listing = λ p. cond (same-path outfall1 p) (found (versions network p)) (fault worn) }
 
 -- it answers nothing
 abbrev pub mute : Meaning
-mute = record { requirements = λ x. refused worn; listing = λ p. refused worn }
+mute = record { requirements = λ x. fault worn; listing = λ p. fault worn }
 
 -- each module version requires one on a further path, with no end
 abbrev pub further : Bytes → Bytes
@@ -103,7 +103,7 @@ further [] = 0 ∷ []
 further (n ∷ ns) = suc n ∷ ns
 
 abbrev pub endless : Meaning
-endless = record { requirements = λ x. given (at (further (x .path)) [] ∷ []); listing = λ p. given [] }
+endless = record { requirements = λ x. found (at (further (x .path)) [] ∷ []); listing = λ p. found [] }
 
 -- the calls
 
@@ -126,7 +126,7 @@ Seen = Reply × List ModuleVersion × List ModuleVersion
 abbrev pub listed-in : Reply → List ModuleVersion → List ModuleVersion
 listed-in accepted l = []
 listed-in (counted places rows) l = take rows l
-listed-in (refused-for r) l = []
+listed-in (refused r) l = []
 
 abbrev pub seen : Outcome → Seen
 seen o = (o .reply, listed-in (o .reply) (o .slices .list), o .state .rows)
@@ -151,40 +151,40 @@ cases =
     ∷ (book network, upper ∷ [], lower (codes "outfall") (codes "v1.1.0") enough, (counted 6 4, main-of (codes "upper") ∷ outfall3 ∷ rain ∷ trunk2 ∷ [], outfall1 ∷ rain ∷ trunk2 ∷ []))
     ∷ (book network, upper ∷ lower (codes "outfall") (codes "v1.1.0") enough ∷ [], list enough, (counted 4 4, main-of (codes "upper") ∷ outfall1 ∷ rain ∷ trunk2 ∷ [], outfall1 ∷ rain ∷ trunk2 ∷ []))
     -- there is nothing to lower, at an equal version or a path that is not listed
-    ∷ (book network, upper ∷ [], lower (codes "outfall") (codes "v1.3.0") enough, (refused-for (plainly nothing-to-change), [], rain ∷ trunk0 ∷ []))
-    ∷ (book network, upper ∷ [], lower (codes "upper") (codes "v0.0.0") enough, (refused-for (plainly nothing-to-change), [], rain ∷ trunk0 ∷ []))
+    ∷ (book network, upper ∷ [], lower (codes "outfall") (codes "v1.3.0") enough, (refused (refusal-for nothing-to-change), [], rain ∷ trunk0 ∷ []))
+    ∷ (book network, upper ∷ [], lower (codes "upper") (codes "v0.0.0") enough, (refused (refusal-for nothing-to-change), [], rain ∷ trunk0 ∷ []))
     -- an excluded requirement is passed over
     ∷ (book network, upper ∷ exclude trunk2 ∷ [], list enough, (counted 4 4, main-of (codes "upper") ∷ outfall3 ∷ rain ∷ trunk0 ∷ [], rain ∷ trunk0 ∷ []))
-    ∷ (book network, upper ∷ exclude trunk2 ∷ [], exclude trunk2, (refused-for (plainly nothing-to-change), [], rain ∷ trunk0 ∷ []))
+    ∷ (book network, upper ∷ exclude trunk2 ∷ [], exclude trunk2, (refused (refusal-for nothing-to-change), [], rain ∷ trunk0 ∷ []))
     -- trunk v1.2.0 is missing: it stands at place 3, one layer down
-    ∷ (book broken-network, upper ∷ [], list enough, (refused-for (record { cause = absent; place = 0; depth = 1; sheet-place = 3 }), [], rain ∷ trunk0 ∷ []))
+    ∷ (book broken-network, upper ∷ [], list enough, (refused (record { cause = missing; place = 0; depth = 1; sheet-place = 3 }), [], rain ∷ trunk0 ∷ []))
     -- a fallback finds it, and finds nothing where the first source is damaged: the fault rises through two layers
     ∷ (falling-back (book broken-network) (book network), upper ∷ [], list enough, (counted 6 4, main-of (codes "upper") ∷ outfall3 ∷ rain ∷ trunk2 ∷ [], rain ∷ trunk0 ∷ []))
-    ∷ (falling-back mute (book network), upper ∷ [], list enough, (refused-for (record { cause = damaged-buffer; place = 5; depth = 2; sheet-place = 1 }), [], rain ∷ trunk0 ∷ []))
+    ∷ (falling-back mute (book network), upper ∷ [], list enough, (refused (record { cause = damaged-buffer; place = 5; depth = 2; sheet-place = 1 }), [], rain ∷ trunk0 ∷ []))
     -- to lower, what is missing is no fault, and a listing's fault is one
     ∷ (book old-network, upper ∷ [], lower (codes "outfall") (codes "v1.1.0") enough, (counted 8 4, main-of (codes "upper") ∷ outfall3 ∷ rain ∷ trunk2 ∷ [], outfall1 ∷ rain ∷ trunk2 ∷ []))
-    ∷ (unlisting, upper ∷ [], lower (codes "outfall") (codes "v1.1.0") enough, (refused-for (record { cause = damaged-buffer; place = 5; depth = 1; sheet-place = 0 }), [], rain ∷ trunk0 ∷ []))
+    ∷ (unlisting, upper ∷ [], lower (codes "outfall") (codes "v1.1.0") enough, (refused (record { cause = damaged-buffer; place = 5; depth = 1; sheet-place = 0 }), [], rain ∷ trunk0 ∷ []))
     -- a 257th place is needed
-    ∷ (endless, reads (codes "main") (at (0 ∷ []) [] ∷ []) ∷ [], list enough, (refused-for (plainly too-many-module-versions), [], at (0 ∷ []) [] ∷ []))
+    ∷ (endless, reads (codes "main") (at (0 ∷ []) [] ∷ []) ∷ [], list enough, (refused (refusal-for too-many-module-versions), [], at (0 ∷ []) [] ∷ []))
     -- a slice is too short
-    ∷ (book network, upper ∷ [], list scant, (refused-for (plainly slice-too-short), [], rain ∷ trunk0 ∷ []))
+    ∷ (book network, upper ∷ [], list scant, (refused (refusal-for slice-too-short), [], rain ∷ trunk0 ∷ []))
     -- a ring ends
     ∷ (book ring, reads (codes "main") (a0 ∷ []) ∷ [], list enough, (counted 4 3, main-of (codes "main") ∷ a1 ∷ b0 ∷ [], a0 ∷ []))
     -- the table: of rows for one path the highest counts
     ∷ (book network, [], reads (codes "upper") (trunk2 ∷ rain ∷ trunk0 ∷ []), (accepted, [], rain ∷ trunk2 ∷ []))
     ∷ (book network, upper ∷ [], raise trunk2, (accepted, [], rain ∷ trunk2 ∷ []))
-    ∷ (book network, upper ∷ [], raise trunk0, (refused-for (plainly nothing-to-change), [], rain ∷ trunk0 ∷ []))
+    ∷ (book network, upper ∷ [], raise trunk0, (refused (refusal-for nothing-to-change), [], rain ∷ trunk0 ∷ []))
     ∷ (book network, upper ∷ [], drop (codes "rain"), (accepted, [], trunk0 ∷ []))
-    ∷ (book network, upper ∷ [], drop (codes "outfall"), (refused-for (plainly nothing-to-change), [], rain ∷ trunk0 ∷ []))
-    ∷ (book network, upper ∷ [], load (unread bad-version 7), (refused-for (record { cause = bad-version; place = 7; depth = 0; sheet-place = 0 }), [], rain ∷ trunk0 ∷ []))
+    ∷ (book network, upper ∷ [], drop (codes "outfall"), (refused (refusal-for nothing-to-change), [], rain ∷ trunk0 ∷ []))
+    ∷ (book network, upper ∷ [], load (unread bad-version 7), (refused (record { cause = bad-version; place = 7; depth = 0; sheet-place = 0 }), [], rain ∷ trunk0 ∷ []))
     ∷ []
 
 -- The sheet slice without its blanks: each module version with the place that it came from.
 abbrev pub from : ℕ → ModuleVersion → Place
-from k x = record { of = x; from = k }
+from k x = record { row = x; from = k }
 
 abbrev pub sheet-seen : Outcome → List Place
-sheet-seen o = kept-by (λ r. not (same (r .of) blank)) (o .slices .sheet)
+sheet-seen o = kept-by (λ r. not (same (r .row) blank)) (o .slices .sheet)
 
 abbrev pub Sheet : Type 0
 Sheet = Meaning × Call × List Place

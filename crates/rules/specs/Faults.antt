@@ -5,7 +5,7 @@ use mathlib.Core.Logic.{_↔_, _⊎_}
 use Prim.Native.Nat.{ℕ, suc}
 use Rattle.rules.specs.Names.{ModuleVersion}
 use Rattle.rules.specs.Causes.{Fault}
-use Rattle.rules.specs.Sources.{Meaning, refused}
+use Rattle.rules.specs.Sources.{Meaning, fault}
 use Rattle.rules.specs.Projects.{State, Reached, Chain, Few, view, Without-list, remaining}
 use Rattle.rules.specs.Walks.{Place, done, stopped, list-walk, trail}
 
@@ -24,7 +24,7 @@ module _ (m : Meaning) (s : State) where
   Shown-on sheet p f = (x : ModuleVersion) × (xs : List ModuleVersion)
       × (trail (suc p) sheet p ≡ x ∷ xs)
       × Chain m s (x ∷ xs)
-      × (remaining (view m s) x ≡ refused f)
+      × (remaining (view m s) x ≡ fault f)
       × (x .path ≡ s .main → ⊥)
 
   abbrev pub Shown : ℕ → Fault → Type 0

@@ -9,7 +9,7 @@ use Rattle.std.specs.shelf.Lists.{kept-by}
 use Rattle.rules.specs.Orders.{Bytes}
 use Rattle.rules.specs.Names.{ModuleVersion, same-path, _∈_, Distinct}
 use Rattle.rules.specs.Causes.{Fault}
-use Rattle.rules.specs.Sources.{Answer, given, refused, Meaning, excluding, included, narrowed}
+use Rattle.rules.specs.Sources.{Answer, found, fault, Meaning, excluding, included, narrowed}
 
 pub record State : Type 0 where
   pub main : Bytes
@@ -45,10 +45,10 @@ module _ (w : View) where
 
   -- y is a remaining requirement of x
   abbrev pub Requires : ModuleVersion → ModuleVersion → Type 0
-  Requires x y = (ys : List ModuleVersion) × (remaining x ≡ given ys) × (y ∈ ys)
+  Requires x y = (ys : List ModuleVersion) × (remaining x ≡ found ys) × (y ∈ ys)
 
   abbrev pub Without-list : ModuleVersion → Type 0
-  Without-list x = (f : Fault) × (remaining x ≡ refused f)
+  Without-list x = (f : Fault) × (remaining x ≡ fault f)
 
 module _ (m : Meaning) (s : State) where
   -- A chain, its last member first: it starts at the main module, and each later member is a remaining requirement of the one before.

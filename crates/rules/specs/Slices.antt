@@ -13,7 +13,7 @@ abbrev pub blank : ModuleVersion
 blank = record { path = codes "_"; version = codes "v0.0.0" }
 
 abbrev pub blank-place : Place
-blank-place = record { of = blank; from = 0 }
+blank-place = record { row = blank; from = 0 }
 
 -- how long the two slices are
 pub record Lent : Type 0 where
@@ -21,8 +21,8 @@ pub record Lent : Type 0 where
   pub list : ℕ
 
 -- both have 256 places at least
-abbrev pub wide : Lent → Bool
-wide n = leb 256 (n .sheet) && leb 256 (n .list)
+abbrev pub long-enough : Lent → Bool
+long-enough n = leb 256 (n .sheet) && leb 256 (n .list)
 
 -- what the two slices hold
 pub record Slices : Type 0 where

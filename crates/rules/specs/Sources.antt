@@ -1,19 +1,19 @@
 -- What a source means, the law that a listing source keeps, and the exclude layer over a meaning. Assumes nothing.
 use mathlib.Core.Path.{_≡_}
 use mathlib.Core.Bool.{cond, not}
-use mathlib.Core.List.{List}
+use mathlib.Core.List.{List, []}
 use Prim.Native.Nat.{_+_, min}
 use lib.Dec.{ltb}
 use lib.ListN.{length}
 use Rattle.std.specs.shelf.Lists.{kept-by}
 use Rattle.rules.specs.Orders.{Bytes}
-use Rattle.rules.specs.Causes.{absent, too-many-to-list, is-missing, Fault}
+use Rattle.rules.specs.Causes.{missing, too-many-to-list, is-missing, Fault}
 use Rattle.rules.specs.Names.{ModuleVersion, has, _∈_}
 use Rattle.rules.specs.Rows.{Ascending-versions, joined-versions}
 
 pub data Answer (A : Type 0) : Type 0 where
-  given : A → Answer A
-  refused : Fault → Answer A
+  found : A → Answer A
+  fault : Fault → Answer A
 
 pub record Meaning : Type 0 where
   -- the requirements of a module version
@@ -26,25 +26,30 @@ at p v = record { path = p; version = v }
 
 -- a listing that is no fault is ascending, and holds every version that has a requirement list
 abbrev pub Lawful : Meaning → Type 0
-Lawful m = (p : Bytes) (vs : List Bytes) → m .listing p ≡ given vs
-    → Ascending-versions vs × ((v : Bytes) (rs : List ModuleVersion) → m .requirements (at p v) ≡ given rs → v ∈ vs)
+Lawful m = (p : Bytes) (vs : List Bytes) → m .listing p ≡ found vs
+    → Ascending-versions vs × ((v : Bytes) (rs : List ModuleVersion) → m .requirements (at p v) ≡ found rs → v ∈ vs)
+
+-- the members of what is found
+abbrev pub found-in : {A : Type 0} → Answer (List A) → List A
+found-in (found xs) = xs
+found-in (fault f) = []
 
 -- f of what is given
 abbrev pub narrowed : {A B : Type 0} → (A → B) → Answer A → Answer B
-narrowed f (given a) = given (f a)
-narrowed f (refused g) = refused g
+narrowed f (found a) = found (f a)
+narrowed f (fault g) = fault g
 
 -- a fault from the layer below
 abbrev pub deeper : Fault → Fault
 deeper f = record { cause = f .cause; place = f .place; depth = min 255 (f .depth + 1) }
 
 abbrev pub passed-up : {A : Type 0} → Answer A → Answer A
-passed-up (given a) = given a
-passed-up (refused f) = refused (deeper f)
+passed-up (found a) = found a
+passed-up (fault f) = fault (deeper f)
 
 -- the answer for an excluded module version
-abbrev pub not-there : Fault
-not-there = record { cause = absent; place = 0; depth = 0 }
+abbrev pub missing-here : Fault
+missing-here = record { cause = missing; place = 0; depth = 0 }
 
 -- those that are not among the exclusions
 abbrev pub included : List ModuleVersion → List ModuleVersion → List ModuleVersion
@@ -53,7 +58,7 @@ included es = kept-by (λ y. not (has es y))
 -- the exclude layer
 abbrev pub excluding : List ModuleVersion → Meaning → Meaning
 excluding es m = record {
-  requirements = λ x. cond (has es x) (refused not-there) (passed-up (narrowed (included es) (m .requirements x)));
+  requirements = λ x. cond (has es x) (fault missing-here) (passed-up (narrowed (included es) (m .requirements x)));
   listing = λ p. passed-up (narrowed (kept-by (λ v. not (has es (at p v)))) (m .listing p));
 }
 
@@ -63,21 +68,21 @@ Layer-lawful = (m : Meaning) (es : List ModuleVersion) → Lawful m → Lawful (
 
 -- the fallback layer: where the first says that it is missing, the second's answer stands
 abbrev pub or-else : {A : Type 0} → Answer A → Answer A → Answer A
-or-else (given a) b = given a
-or-else (refused f) b = cond (is-missing (f .cause)) b (refused f)
+or-else (found a) b = found a
+or-else (fault f) b = cond (is-missing (f .cause)) b (fault f)
 
 -- a listing must hold the versions of both, so it needs both
 abbrev pub both-listed : Answer (List Bytes) → Answer (List Bytes) → Answer (List Bytes)
-both-listed (refused f) b = refused f
-both-listed (given vs) (refused f) = refused f
-both-listed (given vs) (given ws) = given (joined-versions vs ws)
+both-listed (fault f) b = fault f
+both-listed (found vs) (fault f) = fault f
+both-listed (found vs) (found ws) = found (joined-versions vs ws)
 
-abbrev pub too-many : Fault
-too-many = record { cause = too-many-to-list; place = 0; depth = 0 }
+abbrev pub over-64 : Fault
+over-64 = record { cause = too-many-to-list; place = 0; depth = 0 }
 
 abbrev pub at-most-64 : Answer (List Bytes) → Answer (List Bytes)
-at-most-64 (refused f) = refused f
-at-most-64 (given vs) = cond (ltb 64 (length vs)) (refused too-many) (given vs)
+at-most-64 (fault f) = fault f
+at-most-64 (found vs) = cond (ltb 64 (length vs)) (fault over-64) (found vs)
 
 abbrev pub falling-back : Meaning → Meaning → Meaning
 falling-back a b = record {

@@ -10,20 +10,20 @@ use Rattle.std.specs.declared.option.Option.{Option}
 use Rattle.std.specs.declared.option.Option.the-variants.{Some, None}
 use Rattle.rules.specs.Names.{ModuleVersion, has}
 use Rattle.rules.specs.Causes.{Fault}
-use Rattle.rules.specs.Sources.{Answer, given, refused, Meaning}
+use Rattle.rules.specs.Sources.{Answer, found, fault, Meaning}
 use Rattle.rules.specs.Projects.{State, main-row, main-requirements, view, remaining}
 
 -- a row of a sheet: a module version, and the number of the place that it came from
 pub record Place : Type 0 where
-  pub of : ModuleVersion
+  pub row : ModuleVersion
   pub from : ℕ
 
 abbrev pub module-versions : List Place → List ModuleVersion
-module-versions = map (λ r. r .of)
+module-versions = map (λ r. r .row)
 
 -- the sheet with x appended, unless it is there
 abbrev pub noted : ℕ → ModuleVersion → List Place → List Place
-noted from x sheet = cond (has (module-versions sheet) x) sheet (sheet ++ record { of = x; from = from } ∷ [])
+noted from x sheet = cond (has (module-versions sheet) x) sheet (sheet ++ record { row = x; from = from } ∷ [])
 
 abbrev pub written : ℕ → List ModuleVersion → List Place → List Place
 written from [] sheet = sheet
@@ -34,7 +34,7 @@ pub data End : Type 0 where
   -- the place whose question brought a fault
   stopped : ℕ → Fault → End
   -- a 257th place is needed
-  full : End
+  no-room : End
 
 pub record Walked : Type 0 where
   pub sheet : List Place
@@ -44,18 +44,18 @@ abbrev pub ended : End → List Place → Walked
 ended e sheet = record { sheet = sheet; end = e }
 
 -- what comes next, if the sheet has room for its rows
-abbrev pub within : (List Place → Walked) → List Place → Walked
-within next sheet = cond (ltb 256 (length sheet)) (ended full sheet) (next sheet)
+abbrev pub if-room : (List Place → Walked) → List Place → Walked
+if-room next sheet = cond (ltb 256 (length sheet)) (ended no-room sheet) (next sheet)
 
 -- what comes after an answer
 abbrev pub answered : (List Place → Walked) → ℕ → List Place → Answer (List ModuleVersion) → Walked
-answered next place sheet (refused f) = ended (stopped place f) sheet
-answered next place sheet (given xs) = within next (written place xs sheet)
+answered next place sheet (fault f) = ended (stopped place f) sheet
+answered next place sheet (found xs) = if-room next (written place xs sheet)
 
 -- what comes after a row is read
 abbrev pub questioned : (ModuleVersion → Answer (List ModuleVersion)) → (List Place → Walked) → ℕ → List Place → Option Place → Walked
 questioned ask next place sheet None = ended done sheet
-questioned ask next place sheet (Some r) = answered next place sheet (ask (r .of))
+questioned ask next place sheet (Some r) = answered next place sheet (ask (r .row))
 
 -- From a place on, `left` places at most. It is not an `abbrev`: a proof that computed it at 256 would write the 256 turns out.
 unfoldable pub walk : (ModuleVersion → Answer (List ModuleVersion)) → ℕ → ℕ → List Place → Walked
@@ -63,11 +63,11 @@ walk ask zero place sheet = ended done sheet
 walk ask (suc left) place sheet = questioned ask (walk ask left (suc place)) place sheet (nth sheet place)
 
 abbrev pub first-sheet : State → List Place
-first-sheet s = record { of = main-row s; from = 0 } ∷ []
+first-sheet s = record { row = main-row s; from = 0 } ∷ []
 
 -- The walk that a list makes: the rows of the main module are taken first, and the places from 1 on are questioned.
 unfoldable pub list-walk : Meaning → State → Walked
-list-walk m s = within (walk (remaining (view m s)) 255 1) (written 0 (main-requirements s) (first-sheet s))
+list-walk m s = if-room (walk (remaining (view m s)) 255 1) (written 0 (main-requirements s) (first-sheet s))
 
 -- The module versions that the from numbers lead through, from a place back to place 0.
 abbrev pub trail-on : ℕ → List ModuleVersion → List ModuleVersion
@@ -76,7 +76,7 @@ trail-on (suc place) rest = rest
 
 abbrev pub trail-at : (ℕ → List ModuleVersion) → ℕ → Option Place → List ModuleVersion
 trail-at back place None = []
-trail-at back place (Some r) = r .of ∷ trail-on place (back (r .from))
+trail-at back place (Some r) = r .row ∷ trail-on place (back (r .from))
 
 unfoldable pub trail : ℕ → List Place → ℕ → List ModuleVersion
 trail zero sheet place = []
