@@ -16,14 +16,14 @@ use Rattle.rules.specs.Paths.{path-order}
 use Rattle.rules.specs.Versions.{version-order}
 use Rattle.rules.specs.Names.{ModuleVersion, module-order, Upto, has, Stands, _∈_}
 use Rattle.rules.specs.Tables.{met}
-use Rattle.rules.specs.Rows.{own, path-of, higher, Ascending-rows, row-of, with-row, Ascending-exclusions, with-exclusion}
+use Rattle.rules.specs.Rows.{own, path-of, higher, Ascending-rows, row-of, with-row, Ascending-exclusions, with-exclusion, No-row}
 use Rattle.rules.specs.Causes.{number, table-full, nothing-to-change}
 use Rattle.rules.specs.Sources.{Meaning}
-use Rattle.rules.specs.Projects.{State}
-use Rattle.rules.specs.Lowers.{with-rows}
-use Rattle.rules.specs.Calls.{Reply, accepted, counted, refused, Outcome, refusal-for, refuses, unless, with-exclusions, raised, dropped, excluded, does}
+use Rattle.rules.specs.Projects.{State, with-rows, with-exclusions}
+
+use Rattle.rules.specs.Calls.{Reply, accepted, counted, refused, Outcome, refusal-for, refuses, unless, raised, dropped, excluded, does}
 use Rattle.rules.specs.Runs.{after, fresh}
-use Rattle.rules.specs.Changes.{No-row, Accepted, Refused-with, Changes, Changes-right}
+use Rattle.rules.specs.Changes.{Accepted, Refused-with, Changes, Changes-right}
 use Rattle.rules.proofs.Order.{upto-before, before-from-less, paths, versions, module-versions}
 use Rattle.rules.proofs.Members.{member-from-has, no-member-from-has}
 use Rattle.rules.proofs.Tables.{lookup-there, lookup-misses, entered-members, entered-told, entered-all-told, removed-members}

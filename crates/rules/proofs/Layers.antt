@@ -10,10 +10,10 @@ use lib.ListN.{length}
 use Rattle.std.specs.shelf.Lists.{kept-by}
 use Rattle.rules.specs.Orders.{Bytes}
 use Rattle.rules.specs.Versions.{version-order}
-use Rattle.rules.specs.Names.{ModuleVersion, has}
+use Rattle.rules.specs.Names.{ModuleVersion, has, at}
 use Rattle.rules.specs.Rows.{own, joined-versions}
 use Rattle.rules.specs.Causes.{is-missing}
-use Rattle.rules.specs.Sources.{Answer, found, fault, Meaning, Lawful, at, narrowed, passed-up, missing-here, included, excluding, Layer-lawful, or-else, both-listed, over-64, at-most-64, Fallback-lawful}
+use Rattle.rules.specs.Sources.{Answer, found, fault, Meaning, Lawful, narrowed, passed-up, missing-here, included, excluding, Layer-lawful, or-else, both-listed, over-64, at-most-64, Fallback-lawful}
 use Rattle.rules.proofs.Order.{versions}
 use Rattle.rules.proofs.Members.{kept-member}
 use Rattle.rules.proofs.Tables.{kept-ascending, joined-ascending, entered-all-told}

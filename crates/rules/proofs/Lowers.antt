@@ -6,14 +6,14 @@ use mathlib.Core.Logic.{_⊎_, inl, inr, ⊎-elim}
 use native.Mathlib.Omega.{arith}
 use Rattle.std.proofs.shelf.Tests.{and-from, and-parts, not-true}
 use Rattle.rules.specs.Orders.{Bytes}
-use Rattle.rules.specs.Names.{ModuleVersion, same-path, has, Stands, _∈_}
-use Rattle.rules.specs.Sources.{Meaning, Lawful, at}
-use Rattle.rules.specs.Projects.{State, main-row, off-main, View, view, Requires, Reached, Few}
+use Rattle.rules.specs.Names.{ModuleVersion, same-path, has, Stands, _∈_, at}
+use Rattle.rules.specs.Sources.{Meaning, Lawful}
+use Rattle.rules.specs.Projects.{State, main-row, off-main, View, view, Requires, Reached, Few, with-rows}
 use Rattle.rules.specs.Walks.{Place, module-versions, done, list-walk}
 use Rattle.rules.specs.Rows.{table}
 use Rattle.rules.specs.Lists.{list-of}
 use Rattle.rules.specs.Faults.{Broken}
-use Rattle.rules.specs.Lowers.{On-old-path, offers, lower-walk, barred, kept-rows, Kept, Leads, itself, through, Allowed, Fits, ceilings-at, Sound, with-rows, Kept-right, Relisted, Lower-right}
+use Rattle.rules.specs.Lowers.{On-old-path, offers, lower-walk, barred, kept-rows, Kept, Leads, itself, through, Allowed, Fits, ceilings-at, Sound, Kept-right, Relisted, Lower-right}
 use Rattle.rules.proofs.Order.{upto-antisym, not-equal-test, paths, versions}
 use Rattle.rules.proofs.Members.{module-same, member-from-has, has-from-member}
 use Rattle.rules.proofs.Rows.{one-a-path, table-ascending}

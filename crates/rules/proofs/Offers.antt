@@ -12,9 +12,9 @@ use Rattle.std.proofs.shelf.Tests.{and-parts, or-cases, ltb-false}
 use Rattle.rules.specs.Orders.{Bytes}
 use Rattle.rules.specs.Paths.{path-order}
 use Rattle.rules.specs.Versions.{version-order}
-use Rattle.rules.specs.Names.{ModuleVersion, same-path, Upto, _∈_}
+use Rattle.rules.specs.Names.{ModuleVersion, same-path, Upto, _∈_, at}
 use Rattle.rules.specs.Causes.{Fault, is-missing}
-use Rattle.rules.specs.Sources.{Answer, found, fault, Meaning, at, narrowed, found-in}
+use Rattle.rules.specs.Sources.{Answer, found, fault, Meaning, narrowed, found-in}
 use Rattle.rules.specs.Projects.{State, off-main, View, remaining}
 use Rattle.rules.specs.Walks.{Place, written, done, no-room, Walked, ended}
 use Rattle.rules.specs.Lists.{Is-list}
@@ -140,7 +140,7 @@ module _ (w : View) where
       let z : _≡_ {A = ℕ} 0 1 = cc in
       omega arith
 
-  -- what lower's walk was answered, where the row is neither above its ceiling nor gone
+  -- what lower's walk was answered, where the row is neither above its ceiling nor missing
   pub lower-given : (cs : List ModuleVersion) (x : ModuleVersion) (ys : List ModuleVersion) → (Above cs x → ⊥) → (Missing w x → ⊥) → lower-ask w cs x ≡ found ys → remaining w x ≡ found ys
   lower-given cs x ys low there e = unbarred (is-above cs x) refl e
     where

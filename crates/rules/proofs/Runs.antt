@@ -18,13 +18,13 @@ use Rattle.rules.specs.Names.{ModuleVersion, Below, same-path, has, _∈_}
 use Rattle.rules.specs.Rows.{row-of, with-row, with-exclusion}
 use Rattle.rules.specs.Causes.{Cause, too-many-module-versions, Fault, Refusal, nothing-to-change, table-full, slice-too-short}
 use Rattle.rules.specs.Sources.{Meaning, Lawful}
-use Rattle.rules.specs.Projects.{State, view, Reached, Few}
+use Rattle.rules.specs.Projects.{State, view, Reached, Few, with-rows, with-exclusions}
 use Rattle.rules.specs.Walks.{Place, module-versions, End, done, stopped, no-room, list-walk}
 use Rattle.rules.specs.Lists.{list-of}
 use Rattle.rules.specs.Faults.{Stopped, Broken, Shown-on}
-use Rattle.rules.specs.Lowers.{after-main, can-lower, with-rows, lower-walk, kept-rows, old-list, ceilings-at}
+use Rattle.rules.specs.Lowers.{after-main, can-lower, lower-walk, kept-rows, old-list, ceilings-at}
 use Rattle.rules.specs.Slices.{blank, blank-place, Lent, long-enough, filled, holding}
-use Rattle.rules.specs.Calls.{manifest, unread, Call, load, raise, drop, exclude, lower, list, counted, refused, Outcome, refusal-for, refusal-at, refuses, unless, with-exclusions, raised, dropped, excluded, replied, if-done, if-wide, lists, lowers-nothing, lowers-by, lowers, does}
+use Rattle.rules.specs.Calls.{manifest, unread, Call, load, raise, drop, exclude, lower, list, counted, refused, Outcome, refusal-for, refusal-at, refuses, unless, raised, dropped, excluded, replied, if-done, if-long-enough, lists, lowers-nothing, lowers-by, lowers, does}
 use Rattle.rules.specs.Runs.{after, fresh, Gives, Counted, Refused, fault-of, Least, Deserved, Overfull, Lowered, Runs-right}
 use Rattle.rules.proofs.Order.{equal-from-test, before-from-less, paths, versions}
 use Rattle.rules.proofs.Lists.{list-right-at}
@@ -58,8 +58,8 @@ excluded-keeps s x = go (has (s .exclusions) x)
     go true r = refl
     go false r = unless-keeps (leb 32 (length (s .exclusions))) table-full s (with-exclusions s (with-exclusion x (s .exclusions))) r
 
-wide-keeps : (n : Lent) (s : State) (o : Outcome) → (Refused o → o .state ≡ s) → Refused (if-wide n s o) → if-wide n s o .state ≡ s
-wide-keeps n s o h = go (long-enough n)
+long-keeps : (n : Lent) (s : State) (o : Outcome) → (Refused o → o .state ≡ s) → Refused (if-long-enough n s o) → if-long-enough n s o .state ≡ s
+long-keeps n s o h = go (long-enough n)
   where
     short : Outcome
     short = record { reply = refused (refusal-for slice-too-short); state = s; slices = holding n [] [] }
@@ -99,22 +99,22 @@ module _ (m : Meaning) (s : State) where
   refuses-right (raise x) r = raised-keeps s x (row-of (x .path) (s .rows)) r
   refuses-right (drop p) r = dropped-keeps s p (row-of p (s .rows)) r
   refuses-right (exclude x) r = excluded-keeps s x r
-  refuses-right (lower p v n) r = wide-keeps n s (lowers m s p v n) (lowers-keeps p v n) r
-  refuses-right (list n) r = wide-keeps n s (lists m s n) (λ q. refl) r
+  refuses-right (lower p v n) r = long-keeps n s (lowers m s p v n) (lowers-keeps p v n) r
+  refuses-right (list n) r = long-keeps n s (lists m s n) (λ q. refl) r
 
   -- a list
 
-  wide-list-is : (n : Lent) → long-enough n ≡ true → does m s (list n) ≡ lists m s n
+  long-list-is : (n : Lent) → long-enough n ≡ true → does m s (list n) ≡ lists m s n
   unfolding does
-  wide-list-is n w = rw w
+  long-list-is n w = rw w
 
   pub list-gives : (n : Lent) → long-enough n ≡ true → list-walk m s .end ≡ done → Gives (does m s (list n)) n (old-list m s)
   list-gives n w ok =
-      subst (λ o. Gives o n (old-list m s)) (sym (wide-list-is n w))
+      subst (λ o. Gives o n (old-list m s)) (sym (long-list-is n w))
       ((length (list-walk m s .sheet), ap (λ e. replied e (length (list-walk m s .sheet)) (length (old-list m s))) ok), ap (λ e. filled blank (n .list) (if-done e (old-list m s) [])) ok)
 
-  wide-given : (n : Lent) (o : Outcome) → Counted (if-wide n s o) → (long-enough n ≡ true) × Counted o
-  wide-given n o = go (long-enough n)
+  long-counted : (n : Lent) (o : Outcome) → Counted (if-long-enough n s o) → (long-enough n ≡ true) × Counted o
+  long-counted n o = go (long-enough n)
     where
       short : Outcome
       short = record { reply = refused (refusal-for slice-too-short); state = s; slices = holding n [] [] }
@@ -131,7 +131,7 @@ module _ (m : Meaning) (s : State) where
   list-given : (n : Lent) → Counted (does m s (list n)) → (long-enough n ≡ true) × (list-walk m s .end ≡ done)
   unfolding does
   list-given n g =
-      let (w, (k, c, e)) = wide-given n (lists m s n) g in
+      let (w, (k, c, e)) = long-counted n (lists m s n) g in
       (w, replied-done (list-walk m s .end) (length (list-walk m s .sheet)) (length (old-list m s)) k c e)
 
   least-right : (n : Lent) → Counted (does m s (list n)) → (l : List ModuleVersion) × Gives (does m s (list n)) n l × Least m s l
@@ -150,7 +150,7 @@ module _ (m : Meaning) (s : State) where
         × (does m s (list n) .slices .sheet ≡ filled blank-place (n .sheet) sheet) × ((x : ModuleVersion) → x ∈ module-versions sheet ↔ Reached m s x)
     reaches-right k c q =
         let (w, ok) = list-given n (k, c, q) in
-        let is = wide-list-is n w in
+        let is = long-list-is n w in
         let z : counted k c ≡ counted places rows = sym q ∙ ap (λ o. o .reply) is ∙ ap (λ e. replied e places rows) ok in
         let all = take-all 256 (list-walk m s .sheet) (sheet-room m s (λ e. let y : _≡_ {A = ℕ} 0 1 = cc in omega arith)) in
         (list-walk m s .sheet, cc, ap (λ o. o .slices .sheet) is ∙ ap (filled blank-place (n .sheet)) all, λ x. (sheet-reached m s x, reached-sheet m s ok x))
@@ -169,7 +169,7 @@ module _ (m : Meaning) (s : State) where
 
     explains-right : long-enough n ≡ true → (r : Refusal) → does m s (list n) .reply ≡ refused r
         → Shown-on m s (does m s (list n) .slices .sheet) (r .sheet-place) (fault-of r) ⊎ ((r ≡ refusal-for too-many-module-versions) × Overfull m s n (does m s (list n)))
-    explains-right w r = subst Explains (sym (wide-list-is n w)) (λ q. go (list-walk m s .end) refl q)
+    explains-right w r = subst Explains (sym (long-list-is n w)) (λ q. go (list-walk m s .end) refl q)
       where
         Explains : Outcome → Type 0
         Explains o = o .reply ≡ refused r → Shown-on m s (o .slices .sheet) (r .sheet-place) (fault-of r) ⊎ ((r ≡ refusal-for too-many-module-versions) × Overfull m s n o)
@@ -181,7 +181,7 @@ module _ (m : Meaning) (s : State) where
         go no-room e q = inr (let same : refusal-for too-many-module-versions ≡ r = cc in sym same, (many m s e, (take 256 (list-walk m s .sheet), no-room-256 m s e, refl, first-distinct 256 (list-walk m s .sheet) (sheet-distinct m s), λ x h. sheet-reached m s x (first-was 256 (list-walk m s .sheet) x h))))
 
     deserved-right : long-enough n ≡ true → Few m s → Deserved m s (does m s (list n))
-    deserved-right w few = subst (Deserved m s) (sym (wide-list-is n w)) (either, (to, from), λ r q. shows r (stopped-at r q))
+    deserved-right w few = subst (Deserved m s) (sym (long-list-is n w)) (either, (to, from), λ r q. shows r (stopped-at r q))
       where
         refused-at : Stopped m s → Refused (lists m s n)
         refused-at (p, f, e) = (refusal-at p f, ap (λ w. replied w places rows) e)
@@ -230,7 +230,7 @@ module _ (m : Meaning) (s : State) where
 
     lower-given : Counted (does m s (lower p v n)) → (long-enough n ≡ true) × (list-walk m s .end ≡ done) × (can-lower p v (old-list m s) ≡ true) × (lower-walk m s cs .end ≡ done)
     unfolding does
-    lower-given g = let (w, h) = wide-given n (lowers m s p v n) g in by-list w (list-walk m s .end) refl h
+    lower-given g = let (w, h) = long-counted n (lowers m s p v n) g in by-list w (list-walk m s .end) refl h
       where
         chosen : Bool → Outcome
         chosen b = cond b (lowers-by m s n cs) (lowers-nothing m s n)
@@ -278,12 +278,12 @@ module _ (m : Meaning) (s : State) where
         old-list m s,
         list-gives n w ok,
         λ none.
-            let e : if-wide n s (lowers m s p v n) ≡ lowers-nothing m s n =
+            let e : if-long-enough n s (lowers m s p v n) ≡ lowers-nothing m s n =
             ap (λ b. cond b (lowers m s p v n) (record { reply = refused (refusal-for slice-too-short); state = s; slices = holding n [] [] })) w
             ∙ ap (λ e. if-done e (cond (can-lower p v (old-list m s)) (lowers-by m s n (ceilings-at m s p v)) (lowers-nothing m s n)) (lists m s n)) ok
             ∙ ap (λ b. cond b (lowers-by m s n (ceilings-at m s p v)) (lowers-nothing m s n)) (cannot none)
             in
-            (ap (λ o. o .reply) e, ap (λ o. o .slices) e ∙ sym (ap (λ o. o .slices) (wide-list-is n w))),
+            (ap (λ o. o .reply) e, ap (λ o. o .slices) e ∙ sym (ap (λ o. o .slices) (long-list-is n w))),
       )
     where
       cannot : ((x : ModuleVersion) → x ∈ after-main (old-list m s) → x .path ≡ p → Below v (x .version) → ⊥) → can-lower p v (old-list m s) ≡ false
@@ -333,8 +333,8 @@ module _ (m : Meaning) (s : State) where
     filled-length blank (n .list) rows (omega (arith, long-list n w)),
   )
 
-  wide-whole : (n : Lent) (o : Outcome) → (long-enough n ≡ true → Whole n o) → Whole n (if-wide n s o)
-  wide-whole n o h = go (long-enough n) refl
+  long-whole : (n : Lent) (o : Outcome) → (long-enough n ≡ true → Whole n o) → Whole n (if-long-enough n s o)
+  long-whole n o h = go (long-enough n) refl
     where
       go : (b : Bool) → long-enough n ≡ b → Whole n (cond b o (record { reply = refused (refusal-for slice-too-short); state = s; slices = holding n [] [] }))
       go true e = h e
@@ -365,11 +365,11 @@ module _ (m : Meaning) (s : State) where
 
   lengths-right : (n : Lent) → Whole n (does m s (list n))
   unfolding does
-  lengths-right n = wide-whole n (lists m s n) (listing-whole n)
+  lengths-right n = long-whole n (lists m s n) (listing-whole n)
 
   lower-lengths-right : (p v : Bytes) (n : Lent) → Whole n (does m s (lower p v n))
   unfolding does
-  lower-lengths-right p v n = wide-whole n (lowers m s p v n) (lowers-whole p v n)
+  lower-lengths-right p v n = long-whole n (lowers m s p v n) (lowers-whole p v n)
 
 pub runs-right : Runs-right
 runs-right m law calls = let s = after m fresh calls in record {

@@ -19,11 +19,11 @@ use Rattle.rules.specs.Tables.{keep}
 use Rattle.rules.specs.Rows.{own, path-of, higher, Ascending-rows, row-of, with-row, without-row, with-exclusion}
 use Rattle.rules.specs.Causes.{Cause, nothing-to-change, table-full, slice-too-short}
 use Rattle.rules.specs.Sources.{Meaning}
-use Rattle.rules.specs.Projects.{State, view}
+use Rattle.rules.specs.Projects.{State, view, with-rows, with-exclusions}
 use Rattle.rules.specs.Walks.{module-versions, End, done, stopped, no-room, list-walk}
-use Rattle.rules.specs.Lowers.{can-lower, with-rows, lower-walk, kept-rows, old-list, ceilings-at}
+use Rattle.rules.specs.Lowers.{can-lower, lower-walk, kept-rows, old-list, ceilings-at}
 use Rattle.rules.specs.Slices.{Lent, long-enough, holding}
-use Rattle.rules.specs.Calls.{manifest, unread, Call, load, raise, drop, exclude, lower, list, refused, Outcome, refusal-for, refuses, unless, with-exclusions, raised, dropped, excluded, if-done, if-wide, lists, lowers-nothing, lowers-by, lowers, does}
+use Rattle.rules.specs.Calls.{manifest, unread, Call, load, raise, drop, exclude, lower, list, refused, Outcome, refusal-for, refuses, unless, raised, dropped, excluded, if-done, if-long-enough, lists, lowers-nothing, lowers-by, lowers, does}
 use Rattle.rules.specs.Runs.{after, fresh, Tidy, In-bounds, Tidy-right}
 use Rattle.rules.proofs.Order.{paths}
 use Rattle.rules.proofs.Order as order
@@ -76,8 +76,8 @@ excluded-tidy s x t = go (has (s .exclusions) x)
           few-exclusions = omega (arith, entered-most own module-order keep x (s .exclusions), leb-false 32 (length (s .exclusions)) f);
         })
 
-wide-tidy : (n : Lent) (s : State) (o : Outcome) → Tidy s → Tidy (o .state) → Tidy (if-wide n s o .state)
-wide-tidy n s o t h = go (long-enough n)
+long-tidy : (n : Lent) (s : State) (o : Outcome) → Tidy s → Tidy (o .state) → Tidy (if-long-enough n s o .state)
+long-tidy n s o t h = go (long-enough n)
   where
     go : (b : Bool) → Tidy (cond b o (record { reply = refused (refusal-for slice-too-short); state = s; slices = holding n [] [] }) .state)
     go true = h
@@ -125,8 +125,8 @@ module _ (m : Meaning) (s : State) (t : Tidy s) where
   does-tidy (raise x) b = raised-tidy s x (row-of (x .path) (s .rows)) refl t
   does-tidy (drop p) b = dropped-tidy s p (row-of p (s .rows)) t
   does-tidy (exclude x) b = excluded-tidy s x t
-  does-tidy (lower p v n) b = wide-tidy n s (lowers m s p v n) t (lowers-tidy p v n)
-  does-tidy (list n) b = wide-tidy n s (lists m s n) t t
+  does-tidy (lower p v n) b = long-tidy n s (lowers m s p v n) t (lowers-tidy p v n)
+  does-tidy (list n) b = long-tidy n s (lists m s n) t t
 
 after-tidy : (m : Meaning) (s : State) (calls : List Call) → Tidy s → All In-bounds calls → Tidy (after m s calls)
 after-tidy m s [] t b = t

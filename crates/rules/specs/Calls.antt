@@ -1,5 +1,7 @@
--- The six calls of a project: what each answers, and the state and the slices that it leaves, from the meaning and the state before.
--- Assumes nothing.
+-- The six calls of a project: what each replies, and the state and the slices that it leaves, from the meaning of the sources and the state
+-- before. Load takes over a manifest that was read: its main path, of each path the highest row, each exclusion once. Raise sets the one row of
+-- its path, or adds it. Drop removes a row. Exclude adds an exclusion. List walks and gives the list. Lower makes the kept rows the rows.
+-- A call that is refused leaves the state as it was. Assumes nothing.
 use mathlib.Core.Bool.{Bool, cond}
 use mathlib.Core.List.{List, []}
 use Prim.Native.Nat.{ℕ}
@@ -14,9 +16,9 @@ use Rattle.rules.specs.Names.{ModuleVersion, has}
 use Rattle.rules.specs.Rows.{row-of, with-row, without-row, table, with-exclusion, exclusion-table}
 use Rattle.rules.specs.Causes.{Cause, slice-too-short, too-many-module-versions, table-full, nothing-to-change, Fault, Refusal}
 use Rattle.rules.specs.Sources.{Meaning}
-use Rattle.rules.specs.Projects.{State, view}
+use Rattle.rules.specs.Projects.{State, with-exclusions, view, with-rows}
 use Rattle.rules.specs.Walks.{End, done, stopped, no-room, list-walk}
-use Rattle.rules.specs.Lowers.{can-lower, with-rows, lower-walk, kept-rows, old-list, ceilings-at}
+use Rattle.rules.specs.Lowers.{can-lower, lower-walk, kept-rows, old-list, ceilings-at}
 use Rattle.rules.specs.Slices.{Lent, long-enough, Slices, holding}
 
 -- what a manifest's text says
@@ -25,7 +27,7 @@ pub record Manifest : Type 0 where
   pub requires : List ModuleVersion
   pub excludes : List ModuleVersion
 
--- what reading a text gave: a manifest, or a cause and the place it speaks of
+-- what reading a text gave: a manifest, or a cause and the line of which it speaks
 pub data Reading : Type 0 where
   manifest : Manifest → Reading
   unread : Cause → ℕ → Reading
@@ -49,7 +51,7 @@ pub record Outcome : Type 0 where
   pub state : State
   pub slices : Slices
 
--- refusals
+-- ---- refusals
 
 -- where the cause says all
 abbrev pub refusal-for : Cause → Refusal
@@ -59,7 +61,7 @@ refusal-for c = record { cause = c; place = 0; depth = 0; sheet-place = 0 }
 abbrev pub refusal-at : ℕ → Fault → Refusal
 refusal-at k f = record { cause = f .cause; place = f .place; depth = f .depth; sheet-place = k }
 
--- calls that are lent no slices
+-- ---- load, raise, drop and exclude: they are lent no slices
 
 abbrev pub accepts : State → Outcome
 accepts s = record { reply = accepted; state = s; slices = record { sheet = []; list = [] } }
@@ -71,17 +73,16 @@ refuses s r = record { reply = refused r; state = s; slices = record { sheet = [
 abbrev pub unless : Bool → Cause → State → State → Outcome
 unless test c s new = cond test (refuses s (refusal-for c)) (accepts new)
 
-abbrev pub with-exclusions : State → List ModuleVersion → State
-with-exclusions s es = record { main = s .main; rows = s .rows; exclusions = es }
-
 abbrev pub loaded : State → Reading → Outcome
 loaded s (manifest t) = accepts (record { main = t .main; rows = table (t .requires); exclusions = exclusion-table (t .excludes) })
 loaded s (unread c k) = refuses s (record { cause = c; place = k; depth = 0; sheet-place = 0 })
 
+-- a raise of the row x, where its path has a row or none
 abbrev pub raised : State → ModuleVersion → Option ModuleVersion → Outcome
 raised s x (Some y) = unless (isLe (version-order (x .version) (y .version))) nothing-to-change s (with-rows s (with-row x (s .rows)))
 raised s x None = unless (leb 256 (length (s .rows))) table-full s (with-rows s (with-row x (s .rows)))
 
+-- a drop of a path, where it has a row or none
 abbrev pub dropped : State → Bytes → Option ModuleVersion → Outcome
 dropped s p (Some y) = accepts (with-rows s (without-row p (s .rows)))
 dropped s p None = refuses s (refusal-for nothing-to-change)
@@ -91,9 +92,9 @@ excluded s x =
     cond (has (s .exclusions) x) (refuses s (refusal-for nothing-to-change))
     (unless (leb 32 (length (s .exclusions))) table-full s (with-exclusions s (with-exclusion x (s .exclusions))))
 
--- list and lower
+-- ---- list and lower
 
--- what a walk's end answers
+-- what is replied at a walk's end
 abbrev pub replied : End → ℕ → ℕ → Reply
 replied done places rows = counted places rows
 replied (stopped k f) places rows = refused (refusal-at k f)
@@ -105,10 +106,11 @@ if-done (stopped k f) a b = b
 if-done no-room a b = b
 
 -- refused, with both slices blank, if one of them is too short
-abbrev pub if-wide : Lent → State → Outcome → Outcome
-if-wide n s o = cond (long-enough n) o (record { reply = refused (refusal-for slice-too-short); state = s; slices = holding n [] [] })
+abbrev pub if-long-enough : Lent → State → Outcome → Outcome
+if-long-enough n s o = cond (long-enough n) o (record { reply = refused (refusal-for slice-too-short); state = s; slices = holding n [] [] })
 
 module _ (m : Meaning) (s : State) where
+  -- a list; refused, the list slice is blank, and the sheet is as far as it was walked
   abbrev pub lists : Lent → Outcome
   lists n = record {
     reply = replied (list-walk m s .end) (length (list-walk m s .sheet)) (length (old-list m s));
@@ -120,7 +122,7 @@ module _ (m : Meaning) (s : State) where
   abbrev pub lowers-nothing : Lent → Outcome
   lowers-nothing n = record { reply = refused (refusal-for nothing-to-change); state = s; slices = lists n .slices }
 
-  -- by lower's own walk; the list slice holds the old list
+  -- a lower under ceilings, by its own walk; the list slice holds the list that it started from
   abbrev pub lowers-by : Lent → List ModuleVersion → Outcome
   lowers-by n cs = record {
     reply = replied (lower-walk m s cs .end) (length (lower-walk m s cs .sheet)) (length (old-list m s));
@@ -128,7 +130,7 @@ module _ (m : Meaning) (s : State) where
     slices = holding n (lower-walk m s cs .sheet) (old-list m s);
   }
 
-  -- list's refusals come first
+  -- a lower of p to v: list's refusals come first
   abbrev pub lowers : Bytes → Bytes → Lent → Outcome
   lowers p v n = if-done (list-walk m s .end) (cond (can-lower p v (old-list m s)) (lowers-by n (ceilings-at m s p v)) (lowers-nothing n)) (lists n)
 
@@ -138,5 +140,5 @@ module _ (m : Meaning) (s : State) where
   does (raise x) = raised s x (row-of (x .path) (s .rows))
   does (drop p) = dropped s p (row-of p (s .rows))
   does (exclude x) = excluded s x
-  does (lower p v n) = if-wide n s (lowers p v n)
-  does (list n) = if-wide n s (lists n)
+  does (lower p v n) = if-long-enough n s (lowers p v n)
+  does (list n) = if-long-enough n s (lists n)

@@ -1,4 +1,5 @@
--- What the calls that change the tables do, in the tables' own words. Assumes nothing.
+-- What load, raise, drop and exclude do to the tables, said by what the tables hold and not by how it is computed; and when raise, drop and
+-- exclude are refused. Assumes nothing.
 use mathlib.Core.Path.{_≡_}
 use mathlib.Core.List.{List}
 use mathlib.Core.Logic.{_↔_, _⊎_}
@@ -7,16 +8,13 @@ use lib.ListN.{length}
 use Rattle.std.specs.shelf.Lists.{All}
 use Rattle.rules.specs.Orders.{Bytes}
 use Rattle.rules.specs.Names.{ModuleVersion, Stands, _∈_}
+use Rattle.rules.specs.Rows.{No-row}
 use Rattle.rules.specs.Causes.{Cause, table-full, nothing-to-change}
 use Rattle.rules.specs.Sources.{Meaning}
 use Rattle.rules.specs.Projects.{State}
 use Rattle.rules.specs.Lists.{Nowhere-above}
 use Rattle.rules.specs.Calls.{Manifest, manifest, Call, load, raise, drop, exclude, accepted, refused, Outcome, refusal-for, does}
 use Rattle.rules.specs.Runs.{after, fresh, In-bounds}
-
--- a table has no row of a path
-abbrev pub No-row : Bytes → List ModuleVersion → Type 0
-No-row p rows = (y : ModuleVersion) → y ∈ rows → y .path ≡ p → ⊥
 
 abbrev pub Accepted : Outcome → Type 0
 Accepted o = o .reply ≡ accepted
@@ -43,6 +41,6 @@ pub record Changes (m : Meaning) (s : State) : Type 0 where
   pub exclude-present : (x : ModuleVersion) → Refused-with nothing-to-change (does m s (exclude x)) ↔ x ∈ s .exclusions
   pub exclude-table-full : (x : ModuleVersion) → Refused-with table-full (does m s (exclude x)) ↔ ((x ∈ s .exclusions → ⊥) × (32 ≤ length (s .exclusions)))
 
--- THE CHANGES: so it is after every run whose manifests are in bounds
+-- THE CHANGES: so it is after every run whose manifests are in bounds.
 abbrev pub Changes-right : Type 0
 Changes-right = (m : Meaning) (calls : List Call) → All In-bounds calls → Changes m (after m fresh calls)

@@ -10,9 +10,9 @@ use Rattle.std.specs.declared.cmp.Ordering.{Ordering}
 use Rattle.std.specs.declared.cmp.Ordering.the-variants.{Less}
 use Rattle.rules.specs.Orders.{Bytes}
 use Rattle.rules.specs.Versions.{is-version, version-order}
-use Rattle.rules.specs.Names.{ModuleVersion, same, same-path}
+use Rattle.rules.specs.Names.{ModuleVersion, same, same-path, at}
 use Rattle.rules.specs.Causes.{missing, damaged-buffer, nothing-to-change, slice-too-short, too-many-module-versions, bad-version, Fault}
-use Rattle.rules.specs.Sources.{Answer, found, fault, Meaning, at, missing-here, falling-back}
+use Rattle.rules.specs.Sources.{Answer, found, fault, Meaning, missing-here, falling-back}
 use Rattle.rules.specs.Walks.{Place}
 use Rattle.rules.specs.Slices.{blank, Lent}
 use Rattle.rules.specs.Calls.{Call, manifest, unread, load, raise, drop, exclude, lower, list, Reply, accepted, counted, refused, Outcome, refusal-for}

@@ -1,4 +1,6 @@
--- When a list is refused, and what the refusal shows. Assumes nothing.
+-- When a list is refused, and what the refusal shows. While at most 256 module versions are reached, it is refused exactly when for some reached
+-- one, the main one apart, no requirement list is to be had; and then the sheet shows such a one at the place that the refusal names, with a
+-- chain to it. Assumes nothing.
 use mathlib.Core.Path.{_≡_}
 use mathlib.Core.List.{List, _∷_}
 use mathlib.Core.Logic.{_↔_, _⊎_}
@@ -14,7 +16,7 @@ module _ (m : Meaning) (s : State) where
   abbrev pub Stopped : Type 0
   Stopped = (p : ℕ) × (f : Fault) × (list-walk m s .end ≡ stopped p f)
 
-  -- some module version that is reached, the main one apart, has no requirement list
+  -- for some module version that is reached, the main one apart, no requirement list is to be had
   abbrev pub Broken : Type 0
   Broken = (x : ModuleVersion) × Reached m s x × (x .path ≡ s .main → ⊥) × Without-list (view m s) x
 
@@ -30,8 +32,8 @@ module _ (m : Meaning) (s : State) where
   abbrev pub Shown : ℕ → Fault → Type 0
   Shown = Shown-on (list-walk m s .sheet)
 
-  -- THE REFUSAL: while at most 256 module versions are reached, the walk ends, done or in a fault, and in a fault exactly when some
-  -- reached one has no requirement list; and the fault is shown
+  -- THE REFUSAL: while at most 256 module versions are reached, the walk is done or ends in a fault, and in a fault exactly when for some
+  -- reached one no list is to be had; and a fault is always shown.
   abbrev pub Refusal-right-at : Type 0
   Refusal-right-at = (Few m s → ((list-walk m s .end ≡ done) ⊎ Stopped) × (Stopped ↔ Broken))
       × ((p : ℕ) (f : Fault) → list-walk m s .end ≡ stopped p f → Shown p f)

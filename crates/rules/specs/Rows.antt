@@ -1,5 +1,6 @@
--- The tables of the subject: requirement rows ascend by path, one a path; exclusions ascend as module versions, and the versions of a path as
--- versions, each once. Assumes nothing.
+-- The tables of the subject. Requirement rows ascend by path, one a path: where a path comes twice, its higher version counts. Exclusions ascend
+-- as module versions, and the versions of a path as versions, each once. All of them are entered, looked up, joined and removed by the one set
+-- of rules in Tables. Assumes nothing.
 use mathlib.Core.Bool.{cond}
 use mathlib.Core.List.{List, []}
 use Rattle.std.specs.Orderings.{isLt}
@@ -8,7 +9,7 @@ use Rattle.rules.specs.Orders.{Bytes}
 use Rattle.rules.specs.Paths.{path-order}
 use Rattle.rules.specs.Versions.{version-order}
 use Rattle.rules.specs.Names.{ModuleVersion, module-order}
-use Rattle.rules.specs.Tables.{keep, Ascending, lookup, entered, entered-all, joined, removed}
+use Rattle.rules.specs.Tables.{keep, Ascending, lookup, entered, entered-all, joined, removed, Absent}
 
 -- a thing that is its own key
 abbrev pub own : {A : Type 0} → A → A
@@ -30,7 +31,11 @@ Ascending-rows = Ascending path-of path-order
 abbrev pub row-of : Bytes → List ModuleVersion → Option ModuleVersion
 row-of = lookup path-of path-order
 
--- the table with a row entered at its path, where the higher version stays
+-- the table has no row of a path
+abbrev pub No-row : Bytes → List ModuleVersion → Type 0
+No-row = Absent path-of path-order
+
+-- the table with a row entered at its path
 abbrev pub with-row : ModuleVersion → List ModuleVersion → List ModuleVersion
 with-row = entered path-of path-order higher
 

@@ -1,4 +1,5 @@
--- Runs of calls, and the law over all of them. Assumes nothing.
+-- Runs of calls from the fresh state, and the law over all of them: whatever calls were made, over every lawful meaning, a list that is given is
+-- the least that is fit, a refusal is deserved and shown, and a lower keeps the highest rows that can stand together. Assumes nothing.
 use mathlib.Core.Path.{_≡_}
 use mathlib.Core.Bool.{true}
 use mathlib.Core.List.{List, [], _∷_}
@@ -12,14 +13,15 @@ use Rattle.rules.specs.Names.{ModuleVersion, Below, _∈_, Distinct}
 use Rattle.rules.specs.Rows.{Ascending-rows, Ascending-exclusions}
 use Rattle.rules.specs.Causes.{too-many-module-versions, nothing-to-change, Refusal, Fault}
 use Rattle.rules.specs.Sources.{Meaning, Lawful}
-use Rattle.rules.specs.Projects.{State, view, Reached, Few, Many}
+use Rattle.rules.specs.Projects.{State, view, Reached, Few, Many, with-rows}
 use Rattle.rules.specs.Walks.{Place, module-versions}
 use Rattle.rules.specs.Lists.{Is-list, Least-fit}
 use Rattle.rules.specs.Faults.{Broken, Shown-on}
-use Rattle.rules.specs.Lowers.{after-main, ceilings, On-old-path, with-rows, Kept-right}
+use Rattle.rules.specs.Lowers.{after-main, ceilings, On-old-path, Kept-right}
 use Rattle.rules.specs.Slices.{blank, blank-place, Lent, long-enough, filled}
 use Rattle.rules.specs.Calls.{manifest, unread, Call, load, raise, drop, exclude, lower, list, counted, refused, Outcome, refusal-for, does}
 
+-- a fresh project
 abbrev pub fresh : State
 fresh = record { main = codes "_"; rows = []; exclusions = [] }
 
@@ -32,10 +34,11 @@ after m s (c ∷ cs) = after m (does m s c .state) cs
 abbrev pub outcome : Meaning → List Call → Call → Outcome
 outcome m calls c = does m (after m fresh calls) c
 
--- The call is accepted, the list slice holds just l and then blanks, and the answer tells how many rows l has.
+-- the call is accepted, the list slice holds just l and then blanks, and the reply tells how many rows l has
 abbrev pub Gives : Outcome → Lent → List ModuleVersion → Type 0
 Gives o n l = ((places : ℕ) × (o .reply ≡ counted places (length l))) × (o .slices .list ≡ filled blank (n .list) l)
 
+-- a list or a lower is accepted
 abbrev pub Counted : Outcome → Type 0
 Counted o = (places rows : ℕ) × (o .reply ≡ counted places rows)
 
@@ -50,8 +53,8 @@ module _ (m : Meaning) (s : State) where
   abbrev pub Least : List ModuleVersion → Type 0
   Least l = Is-list s l × ((k : List ModuleVersion) → Is-list s k → (k ≡ l) ↔ Least-fit m s k)
 
-  -- A list is given or refused, and refused exactly when some module version that is reached, the main one apart, has no requirement
-  -- list; and the refusal shows such a one at its sheet place.
+  -- A list is given or refused, and refused exactly when for some module version that is reached, the main one apart, no requirement list is
+  -- to be had; and the refusal shows such a one at its sheet place.
   abbrev pub Deserved : Outcome → Type 0
   Deserved o = (Counted o ⊎ Refused o) × (Refused o ↔ Broken m s)
       × ((r : Refusal) → o .reply ≡ refused r → Shown-on m s (o .slices .sheet) (r .sheet-place) (fault-of r))
@@ -75,6 +78,7 @@ module _ (m : Meaning) (s : State) where
     pub relisted : (k : Lent) → long-enough k ≡ true → (l : List ModuleVersion) × Gives (does m (o .state) (list k)) k l
         × ((x : ModuleVersion) → On-old-path (ceilings p v old) x → x ∈ l ↔ x ∈ o .state .rows)
 
+  -- what holds of every call in the state s
   pub record Right : Type 0 where
     -- a call that is refused leaves the state as it was
     pub refused-unchanged : (c : Call) → Refused (does m s c) → does m s c .state ≡ s
@@ -83,30 +87,30 @@ module _ (m : Meaning) (s : State) where
     -- and the sheet slice holds just what is reached, and then blanks
     pub list-reached : (n : Lent) (places rows : ℕ) → does m s (list n) .reply ≡ counted places rows → (sheet : List Place) × (places ≡ length sheet)
         × (does m s (list n) .slices .sheet ≡ filled blank-place (n .sheet) sheet) × ((x : ModuleVersion) → x ∈ module-versions sheet ↔ Reached m s x)
-    -- a refusal in slices long enough shows why: by a module version that has no requirement list, or by there being more than 256
+    -- a refusal in slices long enough shows why: by a module version for which no list is to be had, or by there being more than 256
     pub refusal-shown : (n : Lent) → long-enough n ≡ true → (r : Refusal) → does m s (list n) .reply ≡ refused r
         → Shown-on m s (does m s (list n) .slices .sheet) (r .sheet-place) (fault-of r) ⊎ ((r ≡ refusal-for too-many-module-versions) × Overfull n (does m s (list n)))
     -- while at most 256 are reached, in slices long enough, a refusal is deserved
     pub refusal-deserved : (n : Lent) → long-enough n ≡ true → Few m s → Deserved (does m s (list n))
     -- where a list is refused, a lower does just what the list does
     pub lower-lists-first : (p v : Bytes) (n : Lent) → Refused (does m s (list n)) → does m s (lower p v n) ≡ does m s (list n)
-    -- where a list is given that has the path nowhere above the version, behind the main row, there is nothing to lower, and the slices
-    -- are as the list leaves them
+    -- where a list is given that has the path nowhere above the version, after the main row, there is nothing to lower, and the slices are
+    -- as the list leaves them
     pub lower-idle : (p v : Bytes) (n : Lent) → Counted (does m s (list n)) → (l : List ModuleVersion) × Gives (does m s (list n)) n l
         × (((x : ModuleVersion) → x ∈ after-main l → x .path ≡ p → Below v (x .version) → ⊥)
         → (does m s (lower p v n) .reply ≡ refused (refusal-for nothing-to-change)) × (does m s (lower p v n) .slices ≡ does m s (list n) .slices))
-    -- what an accepted lower leaves is kept rightly
+    -- an accepted lower is worth what is said above
     pub lower-kept : (p v : Bytes) (n : Lent) → Counted (does m s (lower p v n)) → Lowered p v n (does m s (lower p v n))
     -- slices stay as long as they are, and a list changes no state
     pub list-lengths : (n : Lent) → (length (does m s (list n) .slices .sheet) ≡ n .sheet) × (length (does m s (list n) .slices .list) ≡ n .list)
     pub lower-lengths : (p v : Bytes) (n : Lent) → (length (does m s (lower p v n) .slices .sheet) ≡ n .sheet) × (length (does m s (lower p v n) .slices .list) ≡ n .list)
     pub list-unchanged : (n : Lent) → does m s (list n) .state ≡ s
 
--- THE RUNS: over every lawful meaning, so it is after every run of calls from the fresh state
+-- THE RUNS: over every lawful meaning, so it is after every run of calls from the fresh state.
 abbrev pub Runs-right : Type 0
 Runs-right = (m : Meaning) → Lawful m → (calls : List Call) → Right m (after m fresh calls)
 
--- The tables.
+-- ---- the tables
 
 pub record Tidy (s : State) : Type 0 where
   pub rows-ascend : Ascending-rows (s .rows)
@@ -124,6 +128,6 @@ In-bounds (exclude x) = Unit {0}
 In-bounds (lower p v n) = Unit {0}
 In-bounds (list n) = Unit {0}
 
--- THE TABLES: after every run whose manifests are in bounds, both tables are ascending and in bounds
+-- THE STATE: after every run whose manifests are in bounds, both tables of the state are tables and in bounds.
 abbrev pub Tidy-right : Type 0
 Tidy-right = (m : Meaning) (calls : List Call) → All In-bounds calls → Tidy (after m fresh calls)

@@ -1,4 +1,5 @@
--- The slices that a call is lent, and what they hold after it. Assumes nothing.
+-- The two slices that list and lower are lent, for the sheet and for the list, and what they hold after the call: the places or rows written,
+-- and then blanks. Both must have 256 places at least. Assumes nothing.
 use mathlib.Core.Bool.{Bool, _&&_}
 use mathlib.Core.List.{List, _++_}
 use Prim.Native.Nat.{ℕ, _-_}
@@ -33,6 +34,6 @@ pub record Slices : Type 0 where
 abbrev pub filled : {A : Type 0} → A → ℕ → List A → List A
 filled none n xs = xs ++ replicate (n - length xs) none
 
--- of a sheet that would be longer, the first 256 places are written
+-- Of a sheet that needs a 257th place the first 256 are written.
 abbrev pub holding : Lent → List Place → List ModuleVersion → Slices
 holding n sheet list = record { sheet = filled blank-place (n .sheet) (take 256 sheet); list = filled blank (n .list) list }

@@ -111,6 +111,6 @@ module _ {A K : Type 0} (key : A → K) (order : K → K → Ordering) where
     pub removed-old : (k : K) (t : List A) → Ascending t → Present k t → suc (length (removed k t)) ≡ length t
     pub removed-new : (k : K) (t : List A) → Ascending t → Absent k t → removed k t ≡ t
 
--- THE TABLES: so it is by every key and every order of the keys that obeys the laws
+-- THE TABLES: so it is by every key and every order of the keys that obeys the laws.
 abbrev pub Tables-right : Type 0 → Type 0 → Type 0
 Tables-right A K = (key : A → K) (order : K → K → Ordering) → Laws order → Table-laws key order
