@@ -20,7 +20,7 @@ use Rattle.rules.specs.Orders.{Total}
 use Rattle.rules.specs.Names.{_∈_, Distinct}
 use Rattle.rules.specs.Tables.{keep, Ascending, lookup-by, lookup, entered-by, entered, entered-all, joined, removed-by, removed, Present, Absent, Meets, met, Tables-right}
 use Rattle.rules.proofs.Order.{before-not-equal, Ways, ways, before, equal, after, apart-from-test, not-equal-test, test-from-equal, total-of}
-use Rattle.rules.proofs.Members.{all-member, all-from-members, kept-member, kept-was, member-right}
+use Rattle.rules.proofs.Members.{all-member, all-from-members, kept-member, kept-was, member-right, member-map}
 
 -- a filter that all pass keeps all
 pub kept-all : {A : Type 0} (test : A → Bool) (xs : List A) → All (λ x. test x ≡ true) xs → kept-by test xs ≡ xs
@@ -142,6 +142,17 @@ module _ {A K : Type 0} (key : A → K) (order : K → K → Ordering) (o : Tota
   -- the head of a table is at a key of its own
   absent-head : (y : A) (ys : List A) → Table (y ∷ ys) → Absent key order (key y) ys
   absent-head y ys a z h q = before-not-equal o (key y) (key z) (all-member _ ys (a .0) z h) (sym q)
+
+  -- Each item stands before the next: so it does before all that follow.
+  abbrev pub Steps : List A → Type 0
+  Steps [] = Unit {0}
+  Steps (x ∷ []) = Unit {0}
+  Steps (x ∷ y ∷ ys) = (order (key x) (key y) ≡ Less) × Steps (y ∷ ys)
+
+  pub ascending-steps : (t : List A) → Steps t → Table t
+  ascending-steps [] h = tt
+  ascending-steps (x ∷ []) h = (tt, tt)
+  ascending-steps (x ∷ y ∷ ys) h = let a = ascending-steps (y ∷ ys) (h .1) in (all-from-members _ (y ∷ ys) (before-all (key x) y ys a (h .0)), a)
 
   -- and so it is at no key that stands behind it
   not-head : (k : K) (y : A) → order k (key y) ≡ Greater → key y ≡ k → ⊥
@@ -499,12 +510,7 @@ module _ {A B K L : Type 0} (key : A → K) (order : K → K → Ordering) (name
 
     pub map-ascending-back : (t : List A) → Ascending name by (map f t) → Ascending key order t
     map-ascending-back [] a = tt
-    map-ascending-back (x ∷ xs) a = (all-from-members _ xs (λ y h. same x y ∙ all-member (λ z. by (name (f x)) (name z) ≡ Less) (map f xs) (a .0) (f y) (in-map y xs h)), map-ascending-back xs (a .1))
-      where
-        in-map : (y : A) (ys : List A) → y ∈ ys → f y ∈ map f ys
-        in-map y [] h = absurd h
-        in-map y (z ∷ ys) (inl e) = inl (ap f e)
-        in-map y (z ∷ ys) (inr h) = inr (in-map y ys h)
+    map-ascending-back (x ∷ xs) a = (all-from-members _ xs (λ y h. same x y ∙ all-member (λ z. by (name (f x)) (name z) ≡ Less) (map f xs) (a .0) (f y) (member-map f xs y h)), map-ascending-back xs (a .1))
 
     module _ (meet : A → A → A) (join : B → B → B) (meets : (a b : A) → f (meet a b) ≡ join (f a) (f b)) where
       pub map-entered : (x : A) (t : List A) → map f (entered key order meet x t) ≡ entered name by join (f x) (map f t)
