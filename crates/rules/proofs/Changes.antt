@@ -20,7 +20,6 @@ use Rattle.rules.specs.Rows.{own, path-of, higher, Ascending-rows, row-of, wit
 use Rattle.rules.specs.Causes.{number, table-full, nothing-to-change}
 use Rattle.rules.specs.Sources.{Meaning}
 use Rattle.rules.specs.Projects.{State, with-rows, with-exclusions}
-
 use Rattle.rules.specs.Calls.{Reply, accepted, counted, refused, Outcome, refusal-for, refuses, unless, raised, dropped, excluded, does}
 use Rattle.rules.specs.Runs.{after, fresh}
 use Rattle.rules.specs.Changes.{Accepted, Refused-with, Changes, Changes-right}

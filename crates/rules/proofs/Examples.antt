@@ -124,12 +124,17 @@ found-again-lawful = fallback-lawful (book broken-network) (book network) broken
 mute-first-lawful : Lawful (falling-back mute (book network))
 mute-first-lawful = fallback-lawful mute (book network) mute-lawful network-lawful
 
+infixr 20 _&_
+_&_ : {A B : Type 0} → A → B → A × B
+x & y = (x, y)
+
 -- in the order of the cases
 sources-lawful : All (λ c. Lawful (c .0)) cases
 sources-lawful =
-    (nothing-lawful, (network-lawful, (network-lawful, (network-lawful, (network-lawful, (network-lawful, (network-lawful, (network-lawful, (network-lawful, (network-lawful,
-    (broken-lawful, (found-again-lawful, (mute-first-lawful, (old-lawful, (worn-lawful, (unlisting-lawful, (half-lawful, (fans-lawful, (fans-lawful, (network-lawful, (ring-lawful,
-    (network-lawful, (network-lawful, (network-lawful, (network-lawful, (network-lawful, (network-lawful, (network-lawful, tt))))))))))))))))))))))))))))
+    nothing-lawful
+    & network-lawful & network-lawful & network-lawful & network-lawful & network-lawful & network-lawful & network-lawful & network-lawful & network-lawful
+    & broken-lawful & found-again-lawful & mute-first-lawful & old-lawful & worn-lawful & unlisting-lawful & half-lawful & fans-lawful & fans-lawful
+    & network-lawful & ring-lawful & network-lawful & network-lawful & network-lawful & network-lawful & network-lawful & network-lawful & network-lawful & tt
 
 pub examples : Examples
 unfolding lexical path-order parted version-order walk list-walk lower-walk barred kept-rows does

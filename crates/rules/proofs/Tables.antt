@@ -27,14 +27,6 @@ pub kept-all : {A : Type 0} (test : A → Bool) (xs : List A) → All (λ x. tes
 kept-all test [] h = refl
 kept-all test (x ∷ xs) h = ap₂ (λ b ys. cond b (x ∷ ys) ys) (h .0) (kept-all test xs (h .1))
 
-pub kept-length : {A : Type 0} (test : A → Bool) (xs : List A) → length (kept-by test xs) ≤ length xs
-kept-length test [] = omega arith
-kept-length test (x ∷ xs) = go (test x) (kept-length test xs)
-  where
-    go : (b : Bool) → length (kept-by test xs) ≤ length xs → length (cond b (x ∷ kept-by test xs) (kept-by test xs)) ≤ suc (length xs)
-    go true h = omega arith
-    go false h = omega arith
-
 -- ---- whatever the order
 
 module _ {A K : Type 0} (key : A → K) (order : K → K → Ordering) where

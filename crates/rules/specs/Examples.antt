@@ -1,5 +1,5 @@
--- Worked examples: which texts are paths and versions and how versions stand to one another, what calls answer and leave over small sources, and
--- that each of these sources is lawful, so that the laws speak of it. All but the last is shown by computing it. Assumes nothing.
+-- Worked examples: which texts are paths and versions, how versions stand to one another, and what calls reply and leave over small sources, all
+-- by computing it; and that each of these sources is lawful, so that the laws speak of it. Assumes nothing.
 use mathlib.Core.Path.{_≡_}
 use mathlib.Core.Bool.{Bool, true, false, not, cond}
 use mathlib.Core.List.{List, [], _∷_, _++_, map}
@@ -296,77 +296,107 @@ cases =
     ∷ (book network, upper ∷ [], list enough, gives upper-state upper-sheet upper-list)
     -- to lower, each path offers its versions, the highest first
     ∷ (
-      book network, upper ∷ [], lower-outfall,
+      book network,
+      upper ∷ [],
+      lower-outfall,
       gives lowered-state (from 0 main-upper ∷ from 0 outfall1 ∷ from 0 rain ∷ from 0 trunk2 ∷ from 0 trunk0 ∷ from 4 outfall3 ∷ []) upper-list,
     )
     ∷ (
-      book network, upper ∷ lower-outfall ∷ [], list enough,
+      book network,
+      upper ∷ lower-outfall ∷ [],
+      list enough,
       gives lowered-state (from 0 main-upper ∷ from 0 outfall1 ∷ from 0 rain ∷ from 0 trunk2 ∷ []) (main-upper ∷ outfall1 ∷ rain ∷ trunk2 ∷ []),
     )
     -- there is nothing to lower, at an equal version or on the main path
     ∷ (
-      book network, upper ∷ [], lower (codes "outfall") (codes "v1.3.0") enough,
+      book network,
+      upper ∷ [],
+      lower (codes "outfall") (codes "v1.3.0") enough,
       refuses (refusal-for nothing-to-change) upper-state upper-sheet upper-list,
     )
     ∷ (
-      book network, upper ∷ [], lower (codes "upper") (codes "v0.0.0") enough,
+      book network,
+      upper ∷ [],
+      lower (codes "upper") (codes "v0.0.0") enough,
       refuses (refusal-for nothing-to-change) upper-state upper-sheet upper-list,
     )
     -- an excluded requirement is passed over
     ∷ (
-      book network, upper ∷ exclude trunk2 ∷ [], list enough,
+      book network,
+      upper ∷ exclude trunk2 ∷ [],
+      list enough,
       gives (state (codes "upper") (rain ∷ trunk0 ∷ []) (trunk2 ∷ [])) (from 0 main-upper ∷ from 0 rain ∷ from 0 trunk0 ∷ from 2 outfall3 ∷ [])
           (main-upper ∷ outfall3 ∷ rain ∷ trunk0 ∷ []),
     )
     ∷ (book network, upper ∷ [], exclude trunk2, changes (state (codes "upper") (rain ∷ trunk0 ∷ []) (trunk2 ∷ [])))
     ∷ (
-      book network, upper ∷ exclude trunk2 ∷ [], exclude trunk2,
+      book network,
+      upper ∷ exclude trunk2 ∷ [],
+      exclude trunk2,
       refuses (refusal-for nothing-to-change) (state (codes "upper") (rain ∷ trunk0 ∷ []) (trunk2 ∷ [])) [] [],
     )
     -- a requirement on the main path is passed over
     ∷ (
-      book network, loads (codes "outfall") (trunk0 ∷ []) [] ∷ [], list enough,
+      book network,
+      loads (codes "outfall") (trunk0 ∷ []) [] ∷ [],
+      list enough,
       gives (state (codes "outfall") (trunk0 ∷ []) []) (from 0 (main-of (codes "outfall")) ∷ from 0 trunk0 ∷ []) (main-of (codes "outfall") ∷ trunk0 ∷ []),
     )
     -- trunk v1.2.0 is missing: it stands at place 3, one layer down
     ∷ (
-      book broken-network, upper ∷ [], list enough,
+      book broken-network,
+      upper ∷ [],
+      list enough,
       refuses (record { cause = missing; place = 0; depth = 1; sheet-place = 3 }) upper-state
           (from 0 main-upper ∷ from 0 rain ∷ from 0 trunk0 ∷ from 1 trunk2 ∷ from 2 outfall3 ∷ []) [],
     )
     -- a fallback finds it, and finds nothing where the first source is damaged: the fault rises through two layers
     ∷ (falling-back (book broken-network) (book network), upper ∷ [], list enough, gives upper-state upper-sheet upper-list)
     ∷ (
-      falling-back mute (book network), upper ∷ [], list enough,
+      falling-back mute (book network),
+      upper ∷ [],
+      list enough,
       refuses (record { cause = damaged-buffer; place = 5; depth = 2; sheet-place = 1 }) upper-state (from 0 main-upper ∷ from 0 rain ∷ from 0 trunk0 ∷ []) [],
     )
     -- to lower, what is missing is no fault, and what is damaged is one
     ∷ (
-      book old-network, upper ∷ [], lower-outfall,
+      book old-network,
+      upper ∷ [],
+      lower-outfall,
       gives lowered-state
           (from 0 main-upper ∷ from 0 outfall1 ∷ from 0 rain ∷ from 0 rain9 ∷ from 0 trunk2 ∷ from 0 trunk0 ∷ from 3 lost ∷ from 5 outfall3 ∷ []) upper-list,
     )
     ∷ (
-      worn-network, upper ∷ [], lower-outfall,
+      worn-network,
+      upper ∷ [],
+      lower-outfall,
       refuses (record { cause = damaged-buffer; place = 5; depth = 1; sheet-place = 3 }) upper-state
           (from 0 main-upper ∷ from 0 outfall1 ∷ from 0 rain ∷ from 0 rain9 ∷ from 0 trunk2 ∷ from 0 trunk0 ∷ []) upper-list,
     )
     -- so is a listing's fault, after the offers of the paths before it
     ∷ (
-      unlisting, upper ∷ [], lower-outfall,
+      unlisting,
+      upper ∷ [],
+      lower-outfall,
       refuses (record { cause = damaged-buffer; place = 5; depth = 1; sheet-place = 0 }) upper-state (from 0 main-upper ∷ []) upper-list,
     )
     ∷ (
-      half-listing, upper ∷ [], lower-outfall,
+      half-listing,
+      upper ∷ [],
+      lower-outfall,
       refuses (record { cause = damaged-buffer; place = 5; depth = 1; sheet-place = 0 }) upper-state (from 0 main-upper ∷ from 0 outfall1 ∷ []) upper-list,
     )
     -- 256 are reached, and 257
     ∷ (
-      fans, loads (codes "main") tops [] ∷ [], list enough,
+      fans,
+      loads (codes "main") tops [] ∷ [],
+      list enough,
       gives (state (codes "main") tops []) (from 0 main-main ∷ map (from 0) tops ++ five-sheet 1 five) (main-main ∷ five-list five),
     )
     ∷ (
-      fans, loads (codes "main") (tops ++ at (codes "ff") v1 ∷ []) [] ∷ [], list enough,
+      fans,
+      loads (codes "main") (tops ++ at (codes "ff") v1 ∷ []) [] ∷ [],
+      list enough,
       refuses (refusal-for too-many-module-versions) (state (codes "main") (tops ++ at (codes "ff") v1 ∷ []) [])
           (take 256 (from 0 main-main ∷ map (from 0) (tops ++ at (codes "ff") v1 ∷ []) ++ five-sheet 1 five)) [],
     )
@@ -374,16 +404,22 @@ cases =
     ∷ (book network, upper ∷ [], list scant, refuses (refusal-for slice-too-short) upper-state [] [])
     -- a ring ends
     ∷ (
-      book ring, loads (codes "main") (a0 ∷ []) [] ∷ [], list enough,
+      book ring,
+      loads (codes "main") (a0 ∷ []) [] ∷ [],
+      list enough,
       gives (state (codes "main") (a0 ∷ []) []) (from 0 main-main ∷ from 0 a0 ∷ from 1 b0 ∷ from 2 a1 ∷ []) (main-main ∷ a1 ∷ b0 ∷ []),
     )
     -- of rows for one path the highest counts, and equal exclusions count once
     ∷ (
-      book network, [], loads (codes "upper") (trunk2 ∷ rain ∷ trunk0 ∷ []) (trunk0 ∷ rain9 ∷ trunk0 ∷ []),
+      book network,
+      [],
+      loads (codes "upper") (trunk2 ∷ rain ∷ trunk0 ∷ []) (trunk0 ∷ rain9 ∷ trunk0 ∷ []),
       changes (state (codes "upper") (rain ∷ trunk2 ∷ []) (rain9 ∷ trunk0 ∷ [])),
     )
     ∷ (
-      book network, upper ∷ [], load (unread bad-version 7),
+      book network,
+      upper ∷ [],
+      load (unread bad-version 7),
       refuses (record { cause = bad-version; place = 7; depth = 0; sheet-place = 0 }) upper-state [] [],
     )
     ∷ (book network, upper ∷ [], raise trunk2, changes (state (codes "upper") (rain ∷ trunk2 ∷ []) []))
