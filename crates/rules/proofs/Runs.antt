@@ -29,7 +29,7 @@ use Rattle.rules.specs.Runs.{after, fresh, Gives, Counted, Refused, fault-of, 
 use Rattle.rules.proofs.Order.{equal-from-test, before-from-less, paths, versions}
 use Rattle.rules.proofs.Lists.{list-right-at}
 use Rattle.rules.proofs.Faults.{refusal-right-at, shown-on, many}
-use Rattle.rules.proofs.Reached.{sheet-distinct, sheet-reached, reached-sheet}
+use Rattle.rules.proofs.Reached.{main-or-apart, sheet-distinct, sheet-reached, reached-sheet}
 use Rattle.rules.proofs.Marks.{some-there}
 use Rattle.rules.proofs.Lowers.{lower-right}
 use Rattle.rules.proofs.Slices.{filled-length, short-256, long-sheet, long-list, sheet-room, list-room, on-slice, no-room-256, first-was, first-distinct}
@@ -376,6 +376,7 @@ runs-right m law calls = let s = after m fresh calls in record {
   refused-unchanged = refuses-right m s;
   list-least = least-right m s;
   list-reached = reaches-right m s;
+  main-alone = λ x r p. ⊎-elim (λ e. e) (λ off. absurd (off p)) (main-or-apart m s x r);
   refusal-shown = explains-right m s;
   refusal-deserved = deserved-right m s;
   lower-lists-first = lists-first-right m s;

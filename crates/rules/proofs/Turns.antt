@@ -15,7 +15,8 @@ use Rattle.rules.specs.Causes.{Fault}
 use Rattle.rules.specs.Sources.{Answer, found, fault, Meaning}
 use Rattle.rules.specs.Orders.{Bytes}
 use Rattle.rules.specs.Lowers.{offer, offer-written, offers-written}
-use Rattle.rules.specs.Walks.{Place, module-versions, noted, written, done, stopped, no-room, Walked, ended, answered, questioned, walk}
+use Rattle.rules.specs.Projects.{State, main-requirements, view, remaining}
+use Rattle.rules.specs.Walks.{Place, module-versions, noted, written, done, stopped, no-room, Walked, ended, answered, questioned, walk, first-sheet, list-walk}
 use Rattle.rules.proofs.Walks.{written-keeps, placed}
 
 -- the inner loop: one more row of an answer
@@ -86,6 +87,20 @@ module _ (ask : ModuleVersion → Answer (List ModuleVersion)) where
     walk-goes xs a h =
         ap (questioned ask (walk ask left (suc place)) place sheet) reads ∙ ap (answered (walk ask left (suc place)) place sheet) a
         ∙ ap (λ b. cond b (ended no-room (written place xs sheet)) (walk ask left (suc place) (written place xs sheet))) (le-ltb 256 (length (written place xs sheet)) h)
+
+-- how a list's walk begins: with the rows of the main module
+
+module _ (m : Meaning) (s : State) where
+  abbrev first : List Place
+  first = written 0 (main-requirements s) (first-sheet s)
+
+  pub list-fills : 256 < length first → list-walk m s ≡ ended no-room first
+  unfolding list-walk
+  list-fills h = ap (λ b. cond b (ended no-room first) (walk (remaining (view m s)) 255 1 first)) (lt-ltb 256 (length first) h)
+
+  pub list-goes : length first ≤ 256 → list-walk m s ≡ walk (remaining (view m s)) 255 1 first
+  unfolding list-walk
+  list-goes h = ap (λ b. cond b (ended no-room first) (walk (remaining (view m s)) 255 1 first)) (le-ltb 256 (length first) h)
 
 -- the turns of lower's offers
 

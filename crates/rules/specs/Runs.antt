@@ -13,7 +13,7 @@ use Rattle.rules.specs.Names.{ModuleVersion, Below, _∈_, Distinct}
 use Rattle.rules.specs.Rows.{Ascending-rows, Ascending-exclusions}
 use Rattle.rules.specs.Causes.{too-many-module-versions, nothing-to-change, Refusal, Fault}
 use Rattle.rules.specs.Sources.{Meaning, Lawful}
-use Rattle.rules.specs.Projects.{State, view, Reached, Few, Many, with-rows}
+use Rattle.rules.specs.Projects.{State, with-rows, main-row, view, Reached, Few, Many}
 use Rattle.rules.specs.Walks.{Place, module-versions}
 use Rattle.rules.specs.Lists.{Is-list, Least-fit}
 use Rattle.rules.specs.Faults.{Broken, Shown-on}
@@ -87,6 +87,8 @@ module _ (m : Meaning) (s : State) where
     -- and the sheet slice holds just what is reached, and then blanks
     pub list-reached : (n : Lent) (places rows : ℕ) → does m s (list n) .reply ≡ counted places rows → (sheet : List Place) × (places ≡ length sheet)
         × (does m s (list n) .slices .sheet ≡ filled blank-place (n .sheet) sheet) × ((x : ModuleVersion) → x ∈ module-versions sheet ↔ Reached m s x)
+    -- of all that is reached only the main row is on the main path
+    pub main-alone : (x : ModuleVersion) → Reached m s x → x .path ≡ s .main → x ≡ main-row s
     -- a refusal in slices long enough shows why: by a module version for which no list is to be had, or by there being more than 256
     pub refusal-shown : (n : Lent) → long-enough n ≡ true → (r : Refusal) → does m s (list n) .reply ≡ refused r
         → Shown-on m s (does m s (list n) .slices .sheet) (r .sheet-place) (fault-of r) ⊎ ((r ≡ refusal-for too-many-module-versions) × Overfull n (does m s (list n)))
