@@ -135,6 +135,10 @@ module _ {A K : Type 0} (key : A → K) (order : K → K → Ordering) (o : Tota
   absent-head : (y : A) (ys : List A) → Table (y ∷ ys) → Absent key order (key y) ys
   absent-head y ys a z h q = before-not-equal o (key y) (key z) (all-member _ ys (a .0) z h) (sym q)
 
+  -- and so it is at no key that stands behind it
+  not-head : (k : K) (y : A) → order k (key y) ≡ Greater → key y ≡ k → ⊥
+  not-head k y e = before-not-equal o (key y) k (back-of e)
+
   -- Each item stands before the next: so it does before all that follow.
   abbrev pub Steps : List A → Type 0
   Steps [] = Unit {0}
@@ -145,10 +149,6 @@ module _ {A K : Type 0} (key : A → K) (order : K → K → Ordering) (o : Tota
   ascending-steps [] h = tt
   ascending-steps (x ∷ []) h = (tt, tt)
   ascending-steps (x ∷ y ∷ ys) h = let a = ascending-steps (y ∷ ys) (h .1) in (all-from-members _ (y ∷ ys) (before-all (key x) y ys a (h .0)), a)
-
-  -- and so it is at no key that stands behind it
-  not-head : (k : K) (y : A) → order k (key y) ≡ Greater → key y ≡ k → ⊥
-  not-head k y e = before-not-equal o (key y) k (back-of e)
 
   -- one item a key
   pub one-a-key : (t : List A) → Table t → (y z : A) → y ∈ t → z ∈ t → key y ≡ key z → y ≡ z
