@@ -1,2 +1,3 @@
 pub mod Seeking
 pub mod Found
+pub mod Shifted

@@ -2,14 +2,16 @@
 use mathlib.Core.Bool.{Bool, true, false}
 use mathlib.Core.List.{List}
 use Prim.Native.Nat.{ℕ}
-use lib.ListN.{take}
+use lib.Dec.{leb}
+use lib.ListN.{length, take}
+use Rattle.std.specs.Options.{whenTrue}
 use Rattle.std.specs.declared.option.Option.{Option}
 use Rattle.std.specs.declared.option.Option.the-variants.{Some, None}
 use Rattle.std.specs.declared.result.Result.{Result}
 use Rattle.std.specs.declared.result.Result.the-variants.{Ok, Err}
 use Rattle.ordered.specs.declared.table.Table.{Table}
-use Rattle.ordered.specs.declared.table.edits.NotInserted.{NotInserted}
-use Rattle.ordered.specs.declared.table.edits.NotInserted.the-variants.{Present, Full}
+use Rattle.ordered.specs.declared.table.NotInserted.{NotInserted}
+use Rattle.ordered.specs.declared.table.NotInserted.the-variants.{Present, Full}
 
 module _ {T : Type 0} {n : ℕ} where
   -- the items of a table, from the first on
@@ -21,3 +23,11 @@ abbrev pub admitted : {A : Type 0} → Option A → Bool → Result (Unit {0}) N
 admitted (Some old) room = Err Present
 admitted None true = Ok tt
 admitted None false = Err Full
+
+-- where a new item meets an old one of its key, the old one gives way
+abbrev pub give : {A : Type 0} → A → A → A
+give new old = new
+
+-- a list of at most n items
+abbrev pub fitting : {A : Type 0} → ℕ → List A → Option (List A)
+fitting n xs = whenTrue (leb (length xs) n) xs

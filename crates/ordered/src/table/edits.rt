@@ -1,49 +1,75 @@
-// One item put into a table, put in place of another, or taken out.
+// One item put into a table, put in the place of another, or taken out.
 ghost use mathlib.Core.Path.{_≡_};
-ghost use mathlib.Core.List.{[]};
+ghost use mathlib.Core.Bool.{true, false};
 ghost use lib.Dec.{ltb};
 ghost use lib.ListN.{length};
-ghost use Rattle.rules.specs.Tables.{lookup};
-ghost use Rattle.ordered.specs.Held.{held, admitted};
+ghost use Rattle.std.specs.Options.{isSome};
+ghost use Rattle.std.specs.Results.{isOk};
+ghost use Rattle.rules.specs.Tables.{keep, lookup, entered, removed};
+ghost use Rattle.ordered.specs.Held.{held, admitted, give};
 use crate::order::Keyed;
 use crate::order::Ordered;
-use crate::slices::search;
+use super::NotInserted;
 use super::Table;
-
-// Why an item was not inserted: one with its key is there, or else there is no room.
-#[derive(Clone, Copy, PartialEq, Eq, Debug)]
-pub enum NotInserted {
-    Present,
-    Full,
-}
+use super::places::insert_at;
+use super::places::remove_at;
 
 impl<T: Copy, const N: usize> Table<T, N> {
-    // An empty table; `blank` stands in its places until they are taken.
-    pub fn new(blank: T) -> Self
-        ensures value { λ r. ⌜ held r ≡ [] ⌝ }
-    {
-        Table { items: [blank; N], count: 0 }
-    }
-
-    pub fn copy(&self) -> Self
-        ensures value { λ r. ⌜ held r ≡ held (now (self .entry)) ⌝ }
-    {
-        Table { items: self.items, count: self.count }
-    }
-
+    // Puts an item at the place of its key. Where it is refused nothing changes.
     pub fn insert<K: Ordered>(&mut self, item: T) -> Result<(), NotInserted>
     where
         T: Keyed<K>,
         ensures value { λ r. ⌜ r ≡ admitted (lookup (T·Keyed .keyed) (K·Ordered .order) (T·Keyed .keyed item) (held (now (self .entry)))) (ltb (length (held (now (self .entry)))) N) ⌝ }
+        ensures after { λ r. ⌜ (isOk r ≡ true → held (now (self .exit)) ≡ entered (T·Keyed .keyed) (K·Ordered .order) keep item (held (now (self .entry)))) ⌝ }
+        ensures refused { λ r. ⌜ (isOk r ≡ false → now (self .exit) ≡ now (self .entry)) ⌝ }
     {
-        match search(self.as_slice(), item.key()) {
+        match self.place(item.key()) {
             Ok(_) => Err(NotInserted::Present),
             Err(at) => {
                 if self.count == N {
                     return Err(NotInserted::Full);
                 }
+                insert_at(&mut self.items, self.count, at, item);
+                self.count += 1;
                 Ok(())
             }
+        }
+    }
+
+    // Puts an item in the place of the one that has its key, and gives that one back. Where there is none nothing changes.
+    pub fn replace<K: Ordered>(&mut self, item: T) -> Option<T>
+    where
+        T: Keyed<K>,
+        ensures value { λ r. ⌜ r ≡ lookup (T·Keyed .keyed) (K·Ordered .order) (T·Keyed .keyed item) (held (now (self .entry))) ⌝ }
+        ensures after { λ r. ⌜ (isSome r ≡ true → held (now (self .exit)) ≡ entered (T·Keyed .keyed) (K·Ordered .order) give item (held (now (self .entry)))) ⌝ }
+        ensures refused { λ r. ⌜ (isSome r ≡ false → now (self .exit) ≡ now (self .entry)) ⌝ }
+    {
+        match self.place(item.key()) {
+            Ok(at) => {
+                let old = self.items[at];
+                self.items[at] = item;
+                Some(old)
+            }
+            Err(_) => None,
+        }
+    }
+
+    // Takes the item that has the key out, and gives it back. Where there is none nothing changes.
+    pub fn remove<K: Ordered>(&mut self, key: &K) -> Option<T>
+    where
+        T: Keyed<K>,
+        ensures value { λ r. ⌜ r ≡ lookup (T·Keyed .keyed) (K·Ordered .order) (now (key .entry)) (held (now (self .entry))) ⌝ }
+        ensures after { λ _. ⌜ held (now (self .exit)) ≡ removed (T·Keyed .keyed) (K·Ordered .order) (now (key .entry)) (held (now (self .entry))) ⌝ }
+        ensures refused { λ r. ⌜ (isSome r ≡ false → now (self .exit) ≡ now (self .entry)) ⌝ }
+    {
+        match self.place(key) {
+            Ok(at) => {
+                let old = self.items[at];
+                remove_at(&mut self.items, self.count, at);
+                self.count -= 1;
+                Some(old)
+            }
+            Err(_) => None,
         }
     }
 }
