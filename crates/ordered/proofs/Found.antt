@@ -3,9 +3,11 @@ use mathlib.Core.Path.{_≡_, refl, sym, ap, _∙_}
 use mathlib.Core.List.{List, [], _∷_, _++_}
 use Prim.Native.Nat.{ℕ, suc, _<_, _≤_}
 use native.Mathlib.Omega.{arith}
-use lib.ListN.{length, getD, set}
+use lib.ListN.{length, getD, take, set}
+use lib.Seq.{take-set-lt}
 use Rattle.std.specs.shelf.Lists.{inserted, removed}
 use Rattle.std.specs.Results.{Cases}
+use Rattle.std.proofs.shelf.Lists.{getD-take}
 use Rattle.std.proofs.shelf.Results.{cases-at-ok, cases-at-err}
 use Rattle.std.specs.declared.cmp.Ordering.{Ordering}
 use Rattle.std.specs.declared.cmp.Ordering.the-variants.{Less, Equal, Greater}
@@ -14,6 +16,8 @@ use Rattle.std.specs.declared.option.Option.the-variants.{Some, None}
 use Rattle.std.specs.declared.result.Result.{Result}
 use Rattle.std.specs.declared.result.Result.the-variants.{Ok, Err}
 use Rattle.rules.specs.Tables as tables
+use Rattle.rules.specs.Tables.{keep}
+use Rattle.ordered.specs.Held.{give}
 use Rattle.ordered.specs.Places.{sought, sought-by}
 
 module _ {A K : Type 0} (key : A → K) (order : K → K → Ordering) where
@@ -73,31 +77,27 @@ module _ {A K : Type 0} (key : A → K) (order : K → K → Ordering) where
       go Greater (Ok i) h = ap (λ zs. y ∷ zs) h
       go Greater (Err i) h = ap (λ zs. y ∷ zs) h
 
--- the same, each by what the search answered
-module _ {A K : Type 0} (key : A → K) (order : K → K → Ordering) (k : K) (xs : List A) (i : ℕ) where
-  module _ (e : Ok i ≡ sought key order k xs) where
-    pub found-within : i < length xs
-    found-within = cases-at-ok _ _ i (sym e) (within key order k xs)
+-- The same of the first `count` places of an array xs, each by what the search answered.
 
-    pub found-looked : (x : A) → x ≡ getD xs i x → Some x ≡ tables.lookup key order k xs
-    found-looked x read = ap Some read ∙ sym (cases-at-ok _ _ i (sym e) (looked key order k xs) x)
+module _ {A K : Type 0} (key : A → K) (order : K → K → Ordering) (xs : List A) (count : ℕ) (k : K) (i : ℕ) where
+  module _ (e : Ok i ≡ sought key order k (take count xs)) where
+    pub found-looked : i < count → (d : A) → Some (getD xs i d) ≡ tables.lookup key order k (take count xs)
+    found-looked h d =
+        ap Some (sym (getD-take count xs i d h)) ∙ sym (cases-at-ok _ _ i (sym e) (looked key order k (take count xs)) d)
 
-    pub found-gone : tables.removed key order k xs ≡ removed xs i
-    found-gone = cases-at-ok _ _ i (sym e) (gone key order k xs)
+    pub found-gone : removed (take count xs) i ≡ tables.removed key order k (take count xs)
+    found-gone = sym (cases-at-ok _ _ i (sym e) (gone key order k (take count xs)))
 
-  module _ (e : Err i ≡ sought key order k xs) where
-    pub missed-within : i ≤ length xs
-    missed-within = cases-at-err _ _ i (sym e) (within key order k xs)
+  module _ (e : Err i ≡ sought key order k (take count xs)) where
+    pub missed-looked : None ≡ tables.lookup key order k (take count xs)
+    missed-looked = sym (cases-at-err _ _ i (sym e) (looked key order k (take count xs)))
 
-    pub missed-looked : None ≡ tables.lookup key order k xs
-    missed-looked = sym (cases-at-err _ _ i (sym e) (looked key order k xs))
+    pub missed-gone : take count xs ≡ tables.removed key order k (take count xs)
+    missed-gone = sym (cases-at-err _ _ i (sym e) (gone key order k (take count xs)))
 
-    pub missed-gone : tables.removed key order k xs ≡ xs
-    missed-gone = cases-at-err _ _ i (sym e) (gone key order k xs)
+module _ {A K : Type 0} (key : A → K) (order : K → K → Ordering) (xs : List A) (count : ℕ) (x : A) (i : ℕ) where
+  pub found-put : Ok i ≡ sought key order (key x) (take count xs) → i < count → take count (set xs i x) ≡ tables.entered key order give x (take count xs)
+  found-put e h = take-set-lt count xs i x h ∙ sym (cases-at-ok _ _ i (sym e) (put key order give x (take count xs)))
 
-module _ {A K : Type 0} (key : A → K) (order : K → K → Ordering) (meet : A → A → A) (x : A) (xs : List A) (i : ℕ) where
-  pub found-put : Ok i ≡ sought key order (key x) xs → tables.entered key order meet x xs ≡ set xs i (meet x (getD xs i x))
-  found-put e = cases-at-ok _ _ i (sym e) (put key order meet x xs)
-
-  pub missed-put : Err i ≡ sought key order (key x) xs → tables.entered key order meet x xs ≡ inserted xs i x
-  missed-put e = cases-at-err _ _ i (sym e) (put key order meet x xs)
+  pub missed-put : Err i ≡ sought key order (key x) (take count xs) → inserted (take count xs) i x ≡ tables.entered key order keep x (take count xs)
+  missed-put e = sym (cases-at-err _ _ i (sym e) (put key order keep x (take count xs)))
