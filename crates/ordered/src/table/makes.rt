@@ -33,8 +33,9 @@ impl<T: Copy, const N: usize> Table<T, N> {
         let mut all = self.copy();
         for item in other {
             match all.insert(*item) {
+                Ok(()) => {}
+                Err(NotInserted::Present) => {}
                 Err(NotInserted::Full) => return None,
-                _ => {}
             }
         }
         Some(all)
