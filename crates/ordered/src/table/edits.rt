@@ -5,7 +5,8 @@ ghost use lib.Dec.{ltb};
 ghost use lib.ListN.{length};
 ghost use Rattle.std.specs.Options.{isSome};
 ghost use Rattle.std.specs.Results.{isOk};
-ghost use Rattle.rules.specs.Tables.{Ascending, keep, lookup, entered, removed};
+ghost use Rattle.rules.specs.Tables.{keep, lookup, entered, removed};
+ghost use Rattle.ordered.specs.Ascents.{is-ascending};
 ghost use Rattle.ordered.specs.Held.{held, admitted, give};
 use crate::order::Keyed;
 use crate::order::Ordered;
@@ -22,7 +23,7 @@ impl<T: Copy, const N: usize> Table<T, N> {
         ensures value { λ r. ⌜ r ≡ admitted (lookup (T·Keyed .keyed) (K·Ordered .order) (T·Keyed .keyed item) (held (now (self .entry)))) (ltb (length (held (now (self .entry)))) N) ⌝ }
         ensures after { λ r. ⌜ (isOk r ≡ true → held (now (self .exit)) ≡ entered (T·Keyed .keyed) (K·Ordered .order) keep item (held (now (self .entry)))) ⌝ }
         ensures refused { λ r. ⌜ (isOk r ≡ false → now (self .exit) ≡ now (self .entry)) ⌝ }
-        ensures ascending { λ _. ⌜ (Ascending (T·Keyed .keyed) (K·Ordered .order) (held (now (self .entry))) → Ascending (T·Keyed .keyed) (K·Ordered .order) (held (now (self .exit)))) ⌝ }
+        ensures ascending { λ _. ⌜ (is-ascending (T·Keyed .keyed) (K·Ordered .order) (held (now (self .entry))) ≡ true → is-ascending (T·Keyed .keyed) (K·Ordered .order) (held (now (self .exit))) ≡ true) ⌝ }
     {
         match self.place(item.key()) {
             Ok(_) => Err(NotInserted::Present),
@@ -44,7 +45,7 @@ impl<T: Copy, const N: usize> Table<T, N> {
         ensures value { λ r. ⌜ r ≡ lookup (T·Keyed .keyed) (K·Ordered .order) (T·Keyed .keyed item) (held (now (self .entry))) ⌝ }
         ensures after { λ r. ⌜ (isSome r ≡ true → held (now (self .exit)) ≡ entered (T·Keyed .keyed) (K·Ordered .order) give item (held (now (self .entry)))) ⌝ }
         ensures same { λ r. ⌜ (isSome r ≡ false → now (self .exit) ≡ now (self .entry)) ⌝ }
-        ensures ascending { λ _. ⌜ (Ascending (T·Keyed .keyed) (K·Ordered .order) (held (now (self .entry))) → Ascending (T·Keyed .keyed) (K·Ordered .order) (held (now (self .exit)))) ⌝ }
+        ensures ascending { λ _. ⌜ (is-ascending (T·Keyed .keyed) (K·Ordered .order) (held (now (self .entry))) ≡ true → is-ascending (T·Keyed .keyed) (K·Ordered .order) (held (now (self .exit))) ≡ true) ⌝ }
     {
         match self.place(item.key()) {
             Ok(at) => {
@@ -63,7 +64,7 @@ impl<T: Copy, const N: usize> Table<T, N> {
         ensures value { λ r. ⌜ r ≡ lookup (T·Keyed .keyed) (K·Ordered .order) (now (key .entry)) (held (now (self .entry))) ⌝ }
         ensures after { λ _. ⌜ held (now (self .exit)) ≡ removed (T·Keyed .keyed) (K·Ordered .order) (now (key .entry)) (held (now (self .entry))) ⌝ }
         ensures same { λ r. ⌜ (isSome r ≡ false → now (self .exit) ≡ now (self .entry)) ⌝ }
-        ensures ascending { λ _. ⌜ (Ascending (T·Keyed .keyed) (K·Ordered .order) (held (now (self .entry))) → Ascending (T·Keyed .keyed) (K·Ordered .order) (held (now (self .exit)))) ⌝ }
+        ensures ascending { λ _. ⌜ (is-ascending (T·Keyed .keyed) (K·Ordered .order) (held (now (self .entry))) ≡ true → is-ascending (T·Keyed .keyed) (K·Ordered .order) (held (now (self .exit))) ≡ true) ⌝ }
     {
         match self.place(key) {
             Ok(at) => {

@@ -1,8 +1,10 @@
 // Tables made: empty, as another is, and of two.
 ghost use mathlib.Core.Path.{_≡_};
+ghost use mathlib.Core.Bool.{true};
 ghost use mathlib.Core.List.{[]};
 ghost use Rattle.std.specs.Options.{mapped, Cases as BySome};
-ghost use Rattle.rules.specs.Tables.{Ascending, joined};
+ghost use Rattle.rules.specs.Tables.{joined};
+ghost use Rattle.ordered.specs.Ascents.{is-ascending};
 ghost use Rattle.ordered.specs.Held.{held, fitting};
 use crate::order::Keyed;
 use crate::order::Ordered;
@@ -28,7 +30,7 @@ impl<T: Copy, const N: usize> Table<T, N> {
     where
         T: Keyed<K>,
         ensures value { λ r. ⌜ mapped held r ≡ fitting N (joined (T·Keyed .keyed) (K·Ordered .order) (held (now (self .entry))) (now (other .entry))) ⌝ }
-        ensures ascending { λ r. ⌜ (Ascending (T·Keyed .keyed) (K·Ordered .order) (held (now (self .entry))) → BySome r (Unit {0}) (λ t. Ascending (T·Keyed .keyed) (K·Ordered .order) (held t))) ⌝ }
+        ensures ascending { λ r. ⌜ (is-ascending (T·Keyed .keyed) (K·Ordered .order) (held (now (self .entry))) ≡ true → BySome r (Unit {0}) (λ t. is-ascending (T·Keyed .keyed) (K·Ordered .order) (held t) ≡ true)) ⌝ }
     {
         let mut all = self.copy();
         for item in other {

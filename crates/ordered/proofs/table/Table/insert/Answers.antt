@@ -9,10 +9,10 @@ use Rattle.std.proofs.shelf.Lists.{length-take-le}
 use Rattle.std.proofs.shelf.Tests.{lt-ltb, le-ltb}
 use Rattle.std.specs.declared.result.Result.the-variants.{Ok, Err}
 use Rattle.rules.specs.Orders.{Laws}
-use Rattle.rules.specs.Tables.{Ascending, keep, entered}
-use Rattle.rules.proofs.Tables.{tables-right}
+use Rattle.rules.specs.Tables.{keep, entered}
 use Rattle.ordered.specs.Places.{sought}
 use Rattle.ordered.specs.Held.{held, admitted}
+use Rattle.ordered.proofs.Ascents.{entered-ascends}
 use Rattle.ordered.proofs.Found.{found-looked, missed-looked, missed-put}
 use Rattle.ordered.proofs.table.Table.insert.Given as given
 use Rattle.ordered.proofs.table.Table.insert.Needs as need
@@ -73,5 +73,5 @@ returns-else-self g c =
       value = sym (ap₂ admitted (sym (missed-looked key order (t .items) (t .count) (key x) (c .in-Err .at) e)) room);
       after = λ _. put;
       refused = λ q. cc;
-      ascending = λ up. subst (Ascending key order) (sym put) (tables-right _ _ key order (laws g) .entered-ascending keep (λ _ _ _. refl) x (held t) up);
+      ascending = entered-ascends key order (laws g) (held t) (take (t .count + 1) (c .insert-at .last .items)) keep (λ _ _ _. refl) x put;
     }

@@ -6,10 +6,10 @@ use lib.ListN.{length, take}
 use Rattle.std.proofs.shelf.Lists.{length-take-le}
 use Rattle.std.specs.declared.result.Result.the-variants.{Err}
 use Rattle.rules.specs.Orders.{Laws}
-use Rattle.rules.specs.Tables.{Ascending, lookup, joined}
-use Rattle.rules.proofs.Tables.{tables-right}
+use Rattle.rules.specs.Tables.{lookup, joined}
 use Rattle.ordered.specs.declared.table.NotInserted.the-variants.{Present, Full}
 use Rattle.ordered.specs.Held.{held, admitted}
+use Rattle.ordered.proofs.Ascents.{joined-ascends}
 use Rattle.ordered.proofs.Joining.{present-same, joined-more, joined-over, joined-all, fits}
 use Rattle.ordered.proofs.table.Table.join.Given as given
 use Rattle.ordered.proofs.table.Table.join.Needs as need
@@ -60,5 +60,5 @@ returns g c =
     let whole : held all ≡ joined key order t u = joined-all key order t u (held all) (c .loop-item .item-index) (c .loop-item .inv) (c .loop-item-test .left) in
     record {
       value = fits (g .N) (held all) (joined key order t u) (omega (arith, length-take-le (all .count) (all .items) (omega arith))) whole;
-      ascending = λ up. subst (Ascending key order) (sym whole) (tables-right _ _ key order (laws g) .joined-ascending t u up);
+      ascending = joined-ascends key order (laws g) t (held all) u whole;
     }

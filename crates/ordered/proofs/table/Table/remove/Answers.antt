@@ -3,10 +3,9 @@ use mathlib.Core.Path.{_≡_, refl, sym, subst, _∙_}
 use Prim.Native.Nat.{_-_}
 use lib.ListN.{take}
 use Rattle.rules.specs.Orders.{Laws}
-use Rattle.rules.specs.Tables.{Ascending}
 use Rattle.rules.specs.Tables as tables
-use Rattle.rules.proofs.Tables.{tables-right}
 use Rattle.ordered.specs.Held.{held}
+use Rattle.ordered.proofs.Ascents.{removed-ascends}
 use Rattle.ordered.proofs.Found.{found-looked, found-gone, missed-looked, missed-gone}
 use Rattle.ordered.proofs.table.Table.remove.Given as given
 use Rattle.ordered.proofs.table.Table.remove.Needs as need
@@ -29,7 +28,7 @@ returns-in-Ok g c =
       value = found-looked key order (t .items) (t .count) k (c .in-Ok .at) (e .value) (e .items) (c .index-self-at .result);
       after = left;
       same = λ q. cc;
-      ascending = λ up. subst (Ascending key order) (sym left) (tables-right _ _ key order (laws g) .removed-ascending k (held t) up);
+      ascending = removed-ascends key order (laws g) (held t) (take (t .count - 1) (c .remove-at .last .items)) k left;
     }
 
 pub returns-in-Err : need.returns-in-Err

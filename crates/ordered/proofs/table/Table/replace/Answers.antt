@@ -3,10 +3,10 @@ use mathlib.Core.Path.{_≡_, refl, sym, ap, subst, _∙_}
 use lib.ListN.{take, set}
 use Rattle.std.specs.declared.result.Result.the-variants.{Ok, Err}
 use Rattle.rules.specs.Orders.{Laws}
-use Rattle.rules.specs.Tables.{Ascending, entered}
-use Rattle.rules.proofs.Tables.{tables-right}
+use Rattle.rules.specs.Tables.{entered}
 use Rattle.ordered.specs.Places.{sought}
 use Rattle.ordered.specs.Held.{held, give}
+use Rattle.ordered.proofs.Ascents.{entered-ascends}
 use Rattle.ordered.proofs.Found.{found-looked, found-put, missed-looked}
 use Rattle.ordered.proofs.table.Table.replace.Given as given
 use Rattle.ordered.proofs.table.Table.replace.Needs as need
@@ -30,7 +30,7 @@ returns-in-Ok g c =
       value = found-looked key order (t .items) (t .count) (key x) (c .in-Ok .at) e (h .items) (c .index-self-at .result);
       after = λ _. put;
       same = λ q. cc;
-      ascending = λ up. subst (Ascending key order) (sym put) (tables-right _ _ key order (laws g) .entered-ascending give (λ _ _ p. p) x (held t) up);
+      ascending = entered-ascends key order (laws g) (held t) (take (t .count) (set (t .items) (c .in-Ok .at) x)) give (λ _ _ p. p) x put;
     }
 
 pub returns-in-Err : need.returns-in-Err
