@@ -1,7 +1,7 @@
 -- What the place of a key says of a list: that it is in the list, and what a look-up, an entry and a removal at the key give. Assumes nothing.
 use mathlib.Core.Path.{_≡_, refl, sym, ap, _∙_}
-use mathlib.Core.List.{List, [], _∷_, _++_}
-use Prim.Native.Nat.{ℕ, suc, _<_, _≤_}
+use mathlib.Core.List.{List, [], _∷_}
+use Prim.Native.Nat.{ℕ, _<_, _≤_}
 use native.Mathlib.Omega.{arith}
 use lib.ListN.{length, getD, take, set}
 use lib.Seq.{take-set-lt}
@@ -78,6 +78,10 @@ module _ {A K : Type 0} (key : A → K) (order : K → K → Ordering) where
       go Greater (Err i) h = ap (λ zs. y ∷ zs) h
 
 -- The same of the first `count` places of an array xs, each by what the search answered.
+
+-- the search was by a key that is k
+pub by-key : {A K : Type 0} (key : A → K) (order : K → K → Ordering) (xs : List A) (r : Result ℕ ℕ) (k′ k : K) → k′ ≡ k → r ≡ sought key order k′ xs → r ≡ sought key order k xs
+by-key key order xs r k′ k p e = e ∙ ap (λ j. sought key order j xs) p
 
 module _ {A K : Type 0} (key : A → K) (order : K → K → Ordering) (xs : List A) (count : ℕ) (k : K) (i : ℕ) where
   module _ (e : Ok i ≡ sought key order k (take count xs)) where

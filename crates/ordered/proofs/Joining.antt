@@ -7,13 +7,13 @@ use native.Mathlib.Omega.{arith}
 use lib.Dec.{ltb}
 use lib.ListN.{length, getD, take, drop, take-append-drop}
 use Rattle.std.specs.Options.{whenTrue}
-use Rattle.std.proofs.shelf.Lists.{take-more, drop-more, take-all}
+use Rattle.std.proofs.shelf.Lists.{take-more, take-all}
 use Rattle.std.proofs.shelf.Tests.{ltb-false, le-leb, lt-leb}
 use Rattle.std.specs.declared.cmp.Ordering.{Ordering}
 use Rattle.std.specs.declared.cmp.Ordering.the-variants.{Less, Equal, Greater}
 use Rattle.std.specs.declared.option.Option.{Option}
 use Rattle.std.specs.declared.option.Option.the-variants.{Some, None}
-use Rattle.std.specs.declared.result.Result.the-variants.{Ok, Err}
+use Rattle.std.specs.declared.result.Result.the-variants.{Err}
 use Rattle.rules.specs.Tables.{keep, lookup, lookup-by, entered, entered-by, joined}
 use Rattle.rules.proofs.Tables.{entered-all-push, entered-all-append, entered-all-least}
 use Rattle.ordered.specs.declared.table.NotInserted.the-variants.{Present, Full}
@@ -42,7 +42,7 @@ module _ {A K : Type 0} (key : A → K) (order : K → K → Ordering) where
       go Equal below f = absurd (let z : _≡_ {A = ℕ} 0 1 = cc in omega arith)
       go Greater below f = ap suc (below f)
 
-  pub present-same : (x : A) (t : List A) (room : Bool) → Err Present ≡ admitted (lookup key order (key x) t) room → t ≡ entered key order keep x t
+  present-same : (x : A) (t : List A) (room : Bool) → Err Present ≡ admitted (lookup key order (key x) t) room → t ≡ entered key order keep x t
   present-same x t room e = go (lookup key order (key x) t) room refl e
     where
       go : (o : Option A) (b : Bool) → lookup key order (key x) t ≡ o → Err Present ≡ admitted o b → t ≡ entered key order keep x t
@@ -61,11 +61,17 @@ module _ {A K : Type 0} (key : A → K) (order : K → K → Ordering) where
   -- the items u of the second table are gone through to i, h is what is joined so far, and x is the item at i
   module _ (t u h : List A) (i : ℕ) (so-far : h ≡ joined key order t (take i u)) where
     module _ (x : A) (in-list : i < length u) (read : x ≡ getD u i x) where
-      pub joined-more : entered key order keep x h ≡ joined key order t (take (i + 1) u)
-      joined-more =
+      more : entered key order keep x h ≡ joined key order t (take (i + 1) u)
+      more =
           ap (entered key order keep x) so-far
           ∙ sym (entered-all-push key order keep t (take i u) x)
           ∙ ap (joined key order t) (ap (λ y. take i u ++ y ∷ []) read ∙ sym (take-more u i x in-list))
+
+      pub joined-more : (zs : List A) → zs ≡ entered key order keep x h → zs ≡ joined key order t (take (i + 1) u)
+      joined-more zs e = e ∙ more
+
+      pub joined-same : (zs : List A) (room : Bool) → zs ≡ h → Err Present ≡ admitted (lookup key order (key x) h) room → zs ≡ joined key order t (take (i + 1) u)
+      joined-same zs room e p = e ∙ present-same x h room p ∙ more
 
       pub joined-over : (n : ℕ) → Err Full ≡ admitted (lookup key order (key x) h) (ltb (length h) n) → None ≡ fitting n (joined key order t u)
       joined-over n e =
@@ -75,7 +81,7 @@ module _ {A K : Type 0} (key : A → K) (order : K → K → Ordering) where
           whole =
               ap (joined key order t) (sym (take-append-drop (i + 1) u))
               ∙ entered-all-append key order keep t (take (i + 1) u) (drop (i + 1) u)
-              ∙ ap (λ v. joined key order v (drop (i + 1) u)) (sym joined-more)
+              ∙ ap (λ v. joined key order v (drop (i + 1) u)) (sym more)
 
     pub joined-all : length u ≤ i → h ≡ joined key order t u
     joined-all far = so-far ∙ ap (joined key order t) (take-all i u far)

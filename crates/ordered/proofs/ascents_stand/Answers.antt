@@ -1,3 +1,4 @@
+-- The theorem is proved in Ascents. Assumes nothing.
 use Rattle.ordered.proofs.Ascents.{ascents-right}
 use Rattle.ordered.proofs.ascents_stand.Needs as need
 

@@ -1,10 +1,10 @@
 -- The item is written at the place where it would stand, unless one of its key is there or there is no room. Assumes nothing.
-use mathlib.Core.Path.{_≡_, refl, sym, ap, ap₂, subst, _∙_}
+use mathlib.Core.Path.{_≡_, refl, sym, ap, ap₂, _∙_}
 use mathlib.Core.Bool.{true, false}
-use Prim.Native.Nat.{_+_, _<_}
+use Prim.Native.Nat.{_+_}
 use native.Mathlib.Omega.{arith}
 use lib.Dec.{ltb}
-use lib.ListN.{length, take, getD}
+use lib.ListN.{length, take}
 use Rattle.std.proofs.shelf.Lists.{length-take-le}
 use Rattle.std.proofs.shelf.Tests.{lt-ltb, le-ltb}
 use Rattle.std.specs.declared.result.Result.the-variants.{Ok, Err}
@@ -13,7 +13,7 @@ use Rattle.rules.specs.Tables.{keep, entered}
 use Rattle.ordered.specs.Places.{sought}
 use Rattle.ordered.specs.Held.{held, admitted}
 use Rattle.ordered.proofs.Ascents.{entered-ascends}
-use Rattle.ordered.proofs.Found.{found-looked, missed-looked, missed-put}
+use Rattle.ordered.proofs.Found.{by-key, found-looked, missed-looked, missed-put}
 use Rattle.ordered.proofs.table.Table.insert.Given as given
 use Rattle.ordered.proofs.table.Table.insert.Needs as need
 use Rattle.ordered.proofs.table.Table.insert.Needs.{In-Err}
@@ -25,7 +25,9 @@ laws g =
 
 -- no item has the key, and the place is where it would stand
 missed : (g : given.Over) (c : In-Err g) → Err (c .in-Err .at) ≡ sought (g .T·Keyed .keyed) (g .K·Ordered .order) (g .T·Keyed .keyed (c .args .item)) (held (c .args .self .now))
-missed g c = c .in-Err .ensures tt .value ∙ ap (λ k. sought (g .T·Keyed .keyed) (g .K·Ordered .order) k (held (c .args .self .now))) (c .key .ensures)
+missed g c =
+    by-key (g .T·Keyed .keyed) (g .K·Ordered .order) (held (c .args .self .now)) (Err (c .in-Err .at)) (c .key .result .now) (g .T·Keyed .keyed (c .args .item))
+    (c .key .ensures) (c .in-Err .ensures tt .value)
 
 pub returns-in-Ok : need.returns-in-Ok
 returns-in-Ok g c =
@@ -34,11 +36,11 @@ returns-in-Ok g c =
     let key = g .T·Keyed .keyed in
     let order = g .K·Ordered .order in
     let h = c .in-Ok .ensures tt in
-    let e : Ok (c .in-Ok .field-0) ≡ sought key order (key x) (held t) = h .value ∙ ap (λ k. sought key order k (held t)) (c .key .ensures) in
+    let e = by-key key order (held t) (Ok (c .in-Ok .field-0)) (c .key .result .now) (key x) (c .key .ensures) (h .value) in
     record {
       value = ap (λ o. admitted o (ltb (length (held t)) (g .N))) (found-looked key order (t .items) (t .count) (key x) (c .in-Ok .field-0) e (h .items) x);
       after = λ q. cc;
-      refused = λ _. refl;
+      refused = λ _. refl {a = t};
       ascending = λ up. up;
     }
 
@@ -54,7 +56,7 @@ returns-then-self g c =
     record {
       value = sym (ap₂ admitted (sym (missed-looked key order (t .items) (t .count) (key x) (c .in-Err .at) e)) full);
       after = λ q. cc;
-      refused = λ _. refl;
+      refused = λ _. refl {a = t};
       ascending = λ up. up;
     }
 

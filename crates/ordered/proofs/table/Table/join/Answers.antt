@@ -1,8 +1,8 @@
 -- Each turn enters one item, and a table that is full stays too short. Assumes nothing.
-use mathlib.Core.Path.{_≡_, refl, sym, ap, subst, _∙_}
+use mathlib.Core.Path.{_≡_, refl, ap}
 use native.Mathlib.Omega.{arith}
 use lib.Dec.{ltb}
-use lib.ListN.{length, take}
+use lib.ListN.{length}
 use Rattle.std.proofs.shelf.Lists.{length-take-le}
 use Rattle.std.specs.declared.result.Result.the-variants.{Err}
 use Rattle.rules.specs.Orders.{Laws}
@@ -10,7 +10,7 @@ use Rattle.rules.specs.Tables.{lookup, joined}
 use Rattle.ordered.specs.declared.table.NotInserted.the-variants.{Present, Full}
 use Rattle.ordered.specs.Held.{held, admitted}
 use Rattle.ordered.proofs.Ascents.{joined-ascends}
-use Rattle.ordered.proofs.Joining.{present-same, joined-more, joined-over, joined-all, fits}
+use Rattle.ordered.proofs.Joining.{joined-more, joined-same, joined-over, joined-all, fits}
 use Rattle.ordered.proofs.table.Table.join.Given as given
 use Rattle.ordered.proofs.table.Table.join.Needs as need
 use Rattle.ordered.proofs.table.Table.join.Needs.{in-Ok, in-Err-Present}
@@ -26,15 +26,16 @@ loop-item-again g c =
     let order = g .K·Ordered .order in
     let t = held (c .args .self .now) in
     let u = c .args .other .now in
-    let all = c .loop-item .all in
+    let h = held (c .loop-item .all) in
+    let i = c .loop-item .item-index in
     let x = c .item-item .result in
-    let more = joined-more key order t u (held all) (c .loop-item .item-index) (c .loop-item .inv) x (c .loop-item-test .taken) (c .item-item .is) in
+    let zs = held (c .insert .last .self) in
     elim (c .match-insert .came) [
-      in-Ok w ↦ w .in-Ok .ensures tt .after refl ∙ more
+      in-Ok w ↦ joined-more key order t u h i (c .loop-item .inv) x (c .loop-item-test .taken) (c .item-item .is) zs (w .in-Ok .ensures tt .after refl)
     | in-Err-Present w ↦
-        let h = w .in-Err-Present .ensures tt in
-        let e : Err Present ≡ admitted (lookup key order (key x) (held all)) (ltb (length (held all)) (g .N)) = cc (h .value) in
-        ap held (h .refused refl) ∙ present-same key order x (held all) (ltb (length (held all)) (g .N)) e ∙ more
+        let r = w .in-Err-Present .ensures tt in
+        let e : Err Present ≡ admitted (lookup key order (key x) h) (ltb (length h) (g .N)) = cc (r .value) in
+        joined-same key order t u h i (c .loop-item .inv) x (c .loop-item-test .taken) (c .item-item .is) zs (ltb (length h) (g .N)) (ap held (r .refused refl)) e
     ]
 
 pub returns-in-Err-Full : need.returns-in-Err-Full

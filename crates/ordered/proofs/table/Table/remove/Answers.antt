@@ -1,5 +1,5 @@
 -- The item at the place of the key is taken out. Assumes nothing.
-use mathlib.Core.Path.{_≡_, refl, sym, subst, _∙_}
+use mathlib.Core.Path.{_≡_, refl, _∙_}
 use Prim.Native.Nat.{_-_}
 use lib.ListN.{take}
 use Rattle.rules.specs.Orders.{Laws}
@@ -41,6 +41,6 @@ returns-in-Err g c =
     record {
       value = missed-looked key order (t .items) (t .count) k (c .in-Err .field-0) (e .value);
       after = missed-gone key order (t .items) (t .count) k (c .in-Err .field-0) (e .value);
-      same = λ _. refl;
+      same = λ _. refl {a = t};
       ascending = λ up. up;
     }

@@ -1,13 +1,12 @@
 -- The item is written at the place of its key. Assumes nothing.
-use mathlib.Core.Path.{_≡_, refl, sym, ap, subst, _∙_}
+use mathlib.Core.Path.{_≡_, refl}
 use lib.ListN.{take, set}
 use Rattle.std.specs.declared.result.Result.the-variants.{Ok, Err}
 use Rattle.rules.specs.Orders.{Laws}
 use Rattle.rules.specs.Tables.{entered}
-use Rattle.ordered.specs.Places.{sought}
 use Rattle.ordered.specs.Held.{held, give}
 use Rattle.ordered.proofs.Ascents.{entered-ascends}
-use Rattle.ordered.proofs.Found.{found-looked, found-put, missed-looked}
+use Rattle.ordered.proofs.Found.{by-key, found-looked, found-put, missed-looked}
 use Rattle.ordered.proofs.table.Table.replace.Given as given
 use Rattle.ordered.proofs.table.Table.replace.Needs as need
 
@@ -23,7 +22,7 @@ returns-in-Ok g c =
     let key = g .T·Keyed .keyed in
     let order = g .K·Ordered .order in
     let h = c .in-Ok .ensures tt in
-    let e : Ok (c .in-Ok .at) ≡ sought key order (key x) (held t) = h .value ∙ ap (λ k. sought key order k (held t)) (c .key .ensures) in
+    let e = by-key key order (held t) (Ok (c .in-Ok .at)) (c .key .result .now) (key x) (c .key .ensures) (h .value) in
     let put : take (t .count) (set (t .items) (c .in-Ok .at) x) ≡ entered key order give x (held t) =
         found-put key order (t .items) (t .count) x (c .in-Ok .at) e (h .items) in
     record {
@@ -39,10 +38,10 @@ returns-in-Err g c =
     let x = c .args .item in
     let key = g .T·Keyed .keyed in
     let order = g .K·Ordered .order in
-    let e : Err (c .in-Err .field-0) ≡ sought key order (key x) (held t) = c .in-Err .ensures tt .value ∙ ap (λ k. sought key order k (held t)) (c .key .ensures) in
+    let e = by-key key order (held t) (Err (c .in-Err .field-0)) (c .key .result .now) (key x) (c .key .ensures) (c .in-Err .ensures tt .value) in
     record {
       value = missed-looked key order (t .items) (t .count) (key x) (c .in-Err .field-0) e;
       after = λ q. cc;
-      same = λ _. refl;
+      same = λ _. refl {a = t};
       ascending = λ up. up;
     }
