@@ -1,0 +1,47 @@
+// A text is read piece by piece from the left. A dot ends a piece; among the numbers a dash does too, and what follows it are the
+// identifiers. In an identifier a dash is a byte like any other.
+ghost use Rattle.versions.specs.Cuts.{Begins};
+
+// Where a text is read.
+#[derive(Clone, Copy)]
+pub enum Place {
+    Numbers,
+    Identifiers,
+}
+
+// What ends a piece, with the text behind it.
+#[derive(Clone, Copy)]
+pub enum End<'a> {
+    Dot(&'a [u8]),
+    Dash(&'a [u8]),
+    Last,
+}
+
+#[derive(Clone, Copy)]
+pub struct Piece<'a> {
+    pub text: &'a [u8],
+    pub end: End<'a>,
+}
+
+// The piece that a text begins with.
+pub fn next_piece<'a>(text: &'a [u8], place: Place) -> Piece<'a>
+    ensures { λ r. ⌜ Begins place (now (text .entry)) (now (r .text)) (r .end) ⌝ }
+{
+    for (i, b) in text.iter().enumerate() {
+        match (*b as char, place) {
+            ('.', _) => return Piece {
+                text: &text[0..i],
+                end: End::Dot(&text[i + 1..]),
+            },
+            ('-', Place::Numbers) => return Piece {
+                text: &text[0..i],
+                end: End::Dash(&text[i + 1..]),
+            },
+            _ => {}
+        }
+    }
+    Piece {
+        text,
+        end: End::Last,
+    }
+}
