@@ -1,3 +1,6 @@
 pub mod Cuts
 pub mod Numbers
 pub mod Spelling
+pub mod Steps
+pub mod Releases
+pub mod Ranks

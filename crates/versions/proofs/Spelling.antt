@@ -78,18 +78,6 @@ read-all bs i k e l inv = sym (ap (joined k) (at-drop-all spelt bs i l) ∙ last
 
 -- a piece of a kind, as an identifier
 
-pub kind-number : (p : Bytes) → kind-of p ≡ Number → is-number p ≡ true
-kind-number p e = go (is-number p) (is-word p) e
-  where
-    go : (n w : Bool) → cond n Number (cond w Word Other) ≡ Number → n ≡ true
-    go n w e = grind arith
-
-pub kind-not-number : (p : Bytes) → (kind-of p ≡ Number → ⊥) → is-number p ≡ false
-kind-not-number p n = go (is-number p) (is-word p) n
-  where
-    go : (n w : Bool) → (cond n Number (cond w Word Other) ≡ Number → ⊥) → n ≡ false
-    go n w e = grind arith
-
 pub as-number : (p : Bytes) → is-number p ≡ true → identifier p ≡ numeric (value 0 p)
 as-number p t = cond-true (every digit p) (numeric (value 0 p)) (word p) (number-digits p t)
 

@@ -9,28 +9,28 @@ use Rattle.rules.specs.Texts.{dash, dot, every}
 use Rattle.versions.specs.declared.pieces.Place.{Place}
 use Rattle.versions.specs.declared.pieces.Place.the-variants.{Numbers, Identifiers}
 use Rattle.versions.specs.declared.pieces.End.{End}
-use Rattle.versions.specs.declared.pieces.End.the-variants.{Dot, Dash, Last}
+use Rattle.versions.specs.declared.pieces.End.the-variants.{Dash, Last, Dot}
 
 -- a dot ends every piece, and a dash ends a number
 abbrev pub ends : Place → ℕ → Bool
 ends Numbers b = eqb b dot || eqb b dash
 ends Identifiers b = eqb b dot
 
--- what ends a piece, as bytes
-abbrev pub ending : End → Bytes
-ending (Dot rest) = dot ∷ rest .now
-ending (Dash rest) = dash ∷ rest .now
-ending Last = []
+-- what ends a piece, and what follows that
+abbrev pub ending : End → Bytes → Bytes
+ending Dash rest = dash ∷ rest
+ending Last rest = rest
+ending Dot rest = dot ∷ rest
 
--- whether it may end a piece there
-abbrev pub fits : Place → End → Bool
-fits place (Dot rest) = true
-fits Numbers (Dash rest) = true
-fits Identifiers (Dash rest) = false
-fits place Last = true
+-- whether a piece may end so, before a rest
+abbrev pub Ends-so : Place → End → Bytes → Type 0
+Ends-so Numbers Dash rest = Unit {0}
+Ends-so Identifiers Dash rest = ⊥
+Ends-so place Last rest = rest ≡ []
+Ends-so place Dot rest = Unit {0}
 
 -- a text begins with a piece, which is as long as it can be
-pub record Begins (place : Place) (text piece : Bytes) (end : End) : Type 0 where
-  pub whole : text ≡ piece ++ ending end
+pub record Begins (place : Place) (text piece : Bytes) (end : End) (rest : Bytes) : Type 0 where
+  pub whole : text ≡ piece ++ ending end rest
   pub inside : every (λ b. not (ends place b)) piece ≡ true
-  pub fitting : fits place end ≡ true
+  pub so : Ends-so place end rest

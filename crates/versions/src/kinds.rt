@@ -8,7 +8,7 @@ ghost use Rattle.versions.specs.Kinds.{byte-kind, spelt, kind-of};
 use std::cmp::Ordering;
 
 #[derive(Clone, Copy)]
-pub enum Kind {
+enum Kind {
     Number,
     Word,
     Other,
@@ -39,13 +39,33 @@ fn spelling(piece: &[u8]) -> Kind
     kind
 }
 
-pub fn kind_of(piece: &[u8]) -> Kind
+fn kind_of(piece: &[u8]) -> Kind
     ensures { λ r. ⌜ r ≡ kind-of (now (piece .entry)) ⌝ }
 {
     match (spelling(piece), piece) {
         (Kind::Number, []) => Kind::Other,
         (Kind::Number, [b'0', _, ..]) => Kind::Other,
         (kind, _) => kind,
+    }
+}
+
+pub fn is_number(piece: &[u8]) -> bool
+    ensures { λ r. ⌜ r ≡ is-number (now (piece .entry)) ⌝ }
+{
+    match kind_of(piece) {
+        Kind::Number => true,
+        Kind::Word => false,
+        Kind::Other => false,
+    }
+}
+
+pub fn is_identifier(piece: &[u8]) -> bool
+    ensures { λ r. ⌜ r ≡ is-identifier (now (piece .entry)) ⌝ }
+{
+    match kind_of(piece) {
+        Kind::Number => true,
+        Kind::Word => true,
+        Kind::Other => false,
     }
 }
 
@@ -64,10 +84,10 @@ pub fn compare_pieces(a: &[u8], b: &[u8]) -> Ordering
     requires { ⌜ is-identifier (now a) ≡ true ⌝ ∗ ⌜ is-identifier (now b) ≡ true ⌝ }
     ensures { λ r. ⌜ r ≡ identifier-order (identifier (now (a .entry))) (identifier (now (b .entry))) ⌝ }
 {
-    match (kind_of(a), kind_of(b)) {
-        (Kind::Number, Kind::Number) => compare_numbers(a, b),
-        (Kind::Number, _) => Ordering::Less,
-        (_, Kind::Number) => Ordering::Greater,
-        _ => a.cmp(b),
+    match (is_number(a), is_number(b)) {
+        (true, true) => compare_numbers(a, b),
+        (true, false) => Ordering::Less,
+        (false, true) => Ordering::Greater,
+        (false, false) => a.cmp(b),
     }
 }

@@ -3,3 +3,4 @@
 // identifiers is above the same one with some.
 mod kinds;
 mod pieces;
+pub mod texts;

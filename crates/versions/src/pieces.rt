@@ -9,39 +9,32 @@ pub enum Place {
     Identifiers,
 }
 
-// What ends a piece, with the text behind it.
-#[derive(Clone, Copy)]
-pub enum End<'a> {
-    Dot(&'a [u8]),
-    Dash(&'a [u8]),
+// What ends a piece. Of versions that are the same up to here, one with identifiers to come is below one that is over, which is below one
+// whose row of pieces goes on.
+#[derive(Clone, Copy, PartialEq, Eq, PartialOrd, Ord)]
+pub enum End {
+    Dash,
     Last,
+    Dot,
 }
 
 #[derive(Clone, Copy)]
 pub struct Piece<'a> {
     pub text: &'a [u8],
-    pub end: End<'a>,
+    pub end: End,
+    pub rest: &'a [u8],
 }
 
 // The piece that a text begins with.
 pub fn next_piece<'a>(text: &'a [u8], place: Place) -> Piece<'a>
-    ensures { λ r. ⌜ Begins place (now (text .entry)) (now (r .text)) (r .end) ⌝ }
+    ensures { λ r. ⌜ Begins place (now (text .entry)) (now (r .text)) (r .end) (now (r .rest)) ⌝ }
 {
     for (i, b) in text.iter().enumerate() {
         match (*b as char, place) {
-            ('.', _) => return Piece {
-                text: &text[0..i],
-                end: End::Dot(&text[i + 1..]),
-            },
-            ('-', Place::Numbers) => return Piece {
-                text: &text[0..i],
-                end: End::Dash(&text[i + 1..]),
-            },
+            ('.', _) => return Piece { text: &text[0..i], end: End::Dot, rest: &text[i + 1..] },
+            ('-', Place::Numbers) => return Piece { text: &text[0..i], end: End::Dash, rest: &text[i + 1..] },
             _ => {}
         }
     }
-    Piece {
-        text,
-        end: End::Last,
-    }
+    Piece { text, end: End::Last, rest: b"" }
 }
