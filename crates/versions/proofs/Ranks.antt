@@ -2,20 +2,24 @@
 use mathlib.Core.Path.{_≡_, refl, sym, ap, ap₂, _∙_}
 use mathlib.Core.Bool.{Bool, true, false, _&&_}
 use mathlib.Core.List.{List, [], _∷_, map}
-use Prim.Native.Nat.{ℕ}
-use native.Mathlib.Omega.{arith}
+use Prim.Native.Nat.{_-_}
+use lib.Dec.{eqb, leb}
+use lib.ListN.{length, take, drop}
 use Rattle.std.specs.Orderings.{thenBy}
 use Rattle.std.specs.declared.cmp.Ordering.{Ordering}
 use Rattle.std.specs.declared.cmp.Ordering.the-variants.{Less, Equal, Greater}
-use Rattle.std.proofs.shelf.Tests.{and-parts, and-from, or-left}
+use Rattle.std.proofs.shelf.Lists.{take-rest}
+use Rattle.std.proofs.shelf.Tests.{false≢true, and-parts, and-from, or-left}
 use Rattle.rules.specs.Orders.{Bytes, number-order, lexical}
 use Rattle.rules.specs.Texts.{dot, every, pieces}
-use Rattle.rules.specs.Versions.{is-number, is-word, is-identifier, before-dash, behind-dash, value, Identifier, identifier, parts-behind, identifier-order, identifiers-order, precedence}
-use Rattle.rules.proofs.Precedence.{every-head, pieces-some}
+use Rattle.rules.specs.Versions.{is-number, is-word, is-identifier, before-dash, behind-dash, is-release, is-version, value, Identifier, identifier, parts-behind, parts, identifier-order, identifiers-order, precedence, version-order}
+use Rattle.rules.proofs.Order.{then-equal}
+use Rattle.rules.proofs.Precedence.{every-head, pieces-some, precede}
 use Rattle.versions.specs.declared.pieces.Place.{Place}
 use Rattle.versions.specs.declared.pieces.Place.the-variants.{Numbers, Identifiers}
 use Rattle.versions.specs.declared.pieces.End.{End}
 use Rattle.versions.specs.declared.pieces.End.the-variants.{Dash, Last, Dot}
+use Rattle.versions.specs.contracts.pieces.EndOrd.the-impl.{ghosts}
 use Rattle.versions.specs.Cuts.{Ends-so, Begins}
 use Rattle.versions.proofs.Spelling.{as-number}
 use Rattle.versions.proofs.Steps.{numbers-behind, identifiers-behind, more-behind, numbers-first, identifiers-first, more-first}
@@ -35,7 +39,7 @@ place-behind place Dash = Identifiers
 place-behind place Last = place
 place-behind place Dot = place
 
-abbrev pub end-order : End → End → Ordering
+abbrev end-order : End → End → Ordering
 end-order Dash Dash = Equal
 end-order Dash Last = Less
 end-order Dash Dot = Less
@@ -118,11 +122,11 @@ some-above bs = go (pieces-some bs)
     go : (x : Bytes) × (xs : List Bytes) × (pieces dot bs ≡ x ∷ xs) → identifiers-order [] (map identifier (pieces dot bs)) ≡ Greater
     go (x, xs, e) = ap (λ ps. identifiers-order [] (map identifier ps)) e
 
-both-some : (as bs : Bytes) → identifiers-order (map identifier (pieces dot as)) (map identifier (pieces dot bs)) ≡ order-left Identifiers as bs
-both-some as bs = go (pieces-some as) (pieces-some bs)
+both-some : (a b : Bytes) → identifiers-order (map identifier (pieces dot a)) (map identifier (pieces dot b)) ≡ order-left Identifiers a b
+both-some a b = go (pieces-some a) (pieces-some b)
   where
-    go : (x : Bytes) × (xs : List Bytes) × (pieces dot as ≡ x ∷ xs) → (y : Bytes) × (ys : List Bytes) × (pieces dot bs ≡ y ∷ ys)
-        → identifiers-order (map identifier (pieces dot as)) (map identifier (pieces dot bs)) ≡ lexical identifier-order (map identifier (pieces dot as)) (map identifier (pieces dot bs))
+    go : (x : Bytes) × (xs : List Bytes) × (pieces dot a ≡ x ∷ xs) → (y : Bytes) × (ys : List Bytes) × (pieces dot b ≡ y ∷ ys)
+        → identifiers-order (map identifier (pieces dot a)) (map identifier (pieces dot b)) ≡ lexical identifier-order (map identifier (pieces dot a)) (map identifier (pieces dot b))
     go (x, xs, e) (y, ys, g) =
         ap₂ (λ ps qs. identifiers-order (map identifier ps) (map identifier qs)) e g
         ∙ sym (ap₂ (λ ps qs. lexical identifier-order (map identifier ps) (map identifier qs)) e g)
@@ -158,7 +162,7 @@ behind-identifiers Dot Dot r s x y = refl
 -- ---- one piece on
 
 -- The first pieces decide, then what ends them, then what is left.
-pub order-first : (place : Place) (a p : Bytes) (e : End) (r b q : Bytes) (f : End) (s : Bytes)
+order-first : (place : Place) (a p : Bytes) (e : End) (r b q : Bytes) (f : End) (s : Bytes)
     → Begins place a p e r → Begins place b q f s → sound place a ≡ true → sound place b ≡ true
     → order-left place a b ≡ thenBy (thenBy (identifier-order (identifier p) (identifier q)) (end-order e f)) (order-behind place e r s)
 unfolding order-numbers lexical
@@ -172,3 +176,85 @@ order-first Identifiers a p e r b q f s g h t u =
     ap₂ (λ ps qs. lexical identifier-order (map identifier ps) (map identifier qs)) (more-first a p e r g) (more-first b q f s h)
     ∙ ap (thenBy (identifier-order (identifier p) (identifier q))) (behind-identifiers e f r s (g .so) (h .so))
     ∙ sym (then-on (identifier-order (identifier p) (identifier q)) (end-order e f) (order-behind Identifiers e r s))
+
+-- what `cmp` answers of two ends
+cmp-ends : (e f : End) (r : Ordering) → ghosts .orders e f r → r ≡ end-order e f
+cmp-ends Dash Dash r h = h
+cmp-ends Dash Last r h = h
+cmp-ends Dash Dot r h = h
+cmp-ends Last Dash r h = h
+cmp-ends Last Last r h = h
+cmp-ends Last Dot r h = h
+cmp-ends Dot Dash r h = h
+cmp-ends Dot Last r h = h
+cmp-ends Dot Dot r h = h
+
+end-same : (e f : End) → end-order e f ≡ Equal → e ≡ f
+end-same Dash Dash h = refl
+end-same Dash Last h = cc
+end-same Dash Dot h = cc
+end-same Last Dash h = cc
+end-same Last Last h = refl
+end-same Last Dot h = cc
+end-same Dot Dash h = cc
+end-same Dot Last h = cc
+end-same Dot Dot h = refl
+
+-- One turn over both texts: i says how their first pieces stand, j what ends those, k both, and w how the whole versions stand.
+module _ {place : Place} {a p : Bytes} {e : End} {r b q : Bytes} {f : End} {s : Bytes} {i k w : Ordering} (j : Ordering)
+    (g : Begins place a p e r) (h : Begins place b q f s)
+    (inv : (sound place a ≡ true) × (sound place b ≡ true) × (order-left place a b ≡ w))
+    (by-piece : i ≡ identifier-order (identifier p) (identifier q)) (by-end : ghosts .orders e f j) (by-both : k ≡ thenBy i j) where
+  told : k ≡ thenBy (identifier-order (identifier p) (identifier q)) (end-order e f)
+  told = by-both ∙ ap₂ thenBy by-piece (cmp-ends e f j by-end)
+
+  whole : thenBy k (order-behind place e r s) ≡ w
+  whole = ap (λ o. thenBy o (order-behind place e r s)) told ∙ sym (order-first place a p e r b q f s g h (inv .0) (inv .1)) ∙ inv .2
+
+  pub turn-decides : (k ≡ Equal → ⊥) → k ≡ w
+  turn-decides n = go k n ∙ whole
+    where
+      go : (o : Ordering) → (o ≡ Equal → ⊥) → o ≡ thenBy o (order-behind place e r s)
+      go Less m = refl
+      go Equal m = absurd (m refl)
+      go Greater m = refl
+
+  left : k ≡ Equal → order-behind place e r s ≡ w
+  left eq = ap (λ o. thenBy o (order-behind place e r s)) (sym eq) ∙ whole
+
+  pub turn-ends : k ≡ Equal → e ≡ Last → Equal ≡ w
+  turn-ends eq over = ap (λ d. order-behind place d r s) (sym over) ∙ left eq
+
+  pub turn-again : k ≡ Equal → (e ≡ Last → ⊥) → (next : Place) → next ≡ place-behind place e
+      → (sound next r ≡ true) × (sound next s ≡ true) × (order-left next r s ≡ w)
+  turn-again eq on next n =
+      (ap (λ x. sound x r) n ∙ sound-behind place a p e r g (inv .0) on, ap (λ x. sound x s) (n ∙ ap (place-behind place) same) ∙ sound-behind place b q f s h (inv .1) (λ over. on (same ∙ over)), ap (λ x. order-left x r s) n ∙ go e on ∙ left eq)
+    where
+      same : e ≡ f
+      same = end-same e f (then-equal (identifier-order (identifier p) (identifier q)) (end-order e f) (sym told ∙ eq) .1)
+
+      go : (d : End) → (d ≡ Last → ⊥) → order-left (place-behind place d) r s ≡ order-behind place d r s
+      go Dash m = refl
+      go Last m = absurd (m refl)
+      go Dot m = refl
+
+-- the first turn begins behind the v
+
+abbrev unmarked : Bytes → Bytes
+unmarked a = take (length a - 1) (drop 1 a)
+
+pub sound-version : (a : Bytes) → is-version a ≡ true → sound Numbers (unmarked a) ≡ true
+sound-version [] t = absurd (false≢true t)
+sound-version (c ∷ bs) t =
+    let (v, more) = and-parts (eqb c 118) (leb (length (c ∷ bs)) 40 && is-release bs) t in
+    let (short, release) = and-parts (leb (length (c ∷ bs)) 40) (is-release bs) more in
+    let (core, is) = and-parts (eqb (length (pieces dot (before-dash bs))) 3 && every is-number (pieces dot (before-dash bs))) (every is-identifier (behind-dash bs)) release in
+    let (three, ns) = and-parts (eqb (length (pieces dot (before-dash bs))) 3) (every is-number (pieces dot (before-dash bs))) core in
+    ap (sound Numbers) (take-rest (c ∷ bs) 1) ∙ and-from (every is-number (pieces dot (before-dash bs))) (every is-identifier (behind-dash bs)) ns is
+
+parts-unmarked : (a : Bytes) → is-version a ≡ true → parts-behind (unmarked a) ≡ parts a
+parts-unmarked [] t = absurd (false≢true t)
+parts-unmarked (c ∷ bs) t = ap parts-behind (take-rest (c ∷ bs) 1)
+
+pub order-versions : (a b : Bytes) → is-version a ≡ true → is-version b ≡ true → order-left Numbers (unmarked a) (unmarked b) ≡ version-order a b
+order-versions a b t u = ap₂ precedence (parts-unmarked a t) (parts-unmarked b u) ∙ sym (precede a b t u)
