@@ -4,3 +4,4 @@ pub mod Spelling
 pub mod Steps
 pub mod Releases
 pub mod Ranks
+pub mod Others
