@@ -1,22 +1,20 @@
 -- A text cut at an index, and tests of all bytes before it. Assumes nothing.
 use mathlib.Core.Path.{_≡_, refl, sym, ap, ap₂, _∙_}
-use mathlib.Core.Bool.{Bool, true, _&&_}
+use mathlib.Core.Bool.{Bool, true}
 use mathlib.Core.List.{List, [], _∷_, _++_}
 use Prim.Native.Nat.{ℕ, _+_, _-_, _≤_, _<_}
 use native.Mathlib.Omega.{arith}
 use lib.ListN.{length, getD, take, drop}
 use Rattle.std.proofs.shelf.Lists.{take-append-drop, take-more, take-rest, take-all, drop-more}
-use Rattle.std.proofs.shelf.Tests.{and-parts, and-from}
+use Rattle.std.proofs.shelf.Tests.{and-from}
 use Rattle.rules.specs.Orders.{Bytes}
 use Rattle.rules.specs.Texts.{every}
+use Rattle.rules.proofs.Precedence.{every-head}
 
 module _ {A : Type 0} (test : A → Bool) where
-  pub every-head : (x : A) (xs : List A) → every test (x ∷ xs) ≡ true → (test x ≡ true) × (every test xs ≡ true)
-  every-head x xs t = and-parts (test x) (every test xs) t
-
-  pub every-push : (xs : List A) (x : A) → every test xs ≡ true → test x ≡ true → every test (xs ++ x ∷ []) ≡ true
+  every-push : (xs : List A) (x : A) → every test xs ≡ true → test x ≡ true → every test (xs ++ x ∷ []) ≡ true
   every-push [] x t h = and-from (test x) true h refl
-  every-push (y ∷ ys) x t h = let (ty, ts) = every-head y ys t in and-from (test y) (every test (ys ++ x ∷ [])) ty (every-push ys x ts h)
+  every-push (y ∷ ys) x t h = let (ty, ts) = every-head test y ys t in and-from (test y) (every test (ys ++ x ∷ [])) ty (every-push ys x ts h)
 
   -- one more from the left
   pub every-more : (xs : List A) (i : ℕ) (d : A) → i < length xs → every test (take i xs) ≡ true → test (getD xs i d) ≡ true → every test (take (i + 1) xs) ≡ true

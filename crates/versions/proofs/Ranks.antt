@@ -1,6 +1,6 @@
 -- How what is left of two versions stands, piece by piece. Assumes nothing.
 use mathlib.Core.Path.{_≡_, refl, sym, ap, ap₂, _∙_}
-use mathlib.Core.Bool.{Bool, true, false, _&&_}
+use mathlib.Core.Bool.{Bool, true, _&&_}
 use mathlib.Core.List.{List, [], _∷_, map}
 use Prim.Native.Nat.{_-_}
 use lib.Dec.{eqb, leb}
@@ -12,7 +12,7 @@ use Rattle.std.proofs.shelf.Lists.{take-rest}
 use Rattle.std.proofs.shelf.Tests.{false≢true, and-parts, and-from, or-left}
 use Rattle.rules.specs.Orders.{Bytes, number-order, lexical}
 use Rattle.rules.specs.Texts.{dot, every, pieces}
-use Rattle.rules.specs.Versions.{is-number, is-word, is-identifier, before-dash, behind-dash, is-release, is-version, value, Identifier, identifier, parts-behind, parts, identifier-order, identifiers-order, precedence, version-order}
+use Rattle.rules.specs.Versions.{is-number, is-word, is-identifier, before-dash, behind-dash, is-release, is-version, value, identifier, parts-behind, parts, identifier-order, identifiers-order, precedence, version-order}
 use Rattle.rules.proofs.Order.{then-equal}
 use Rattle.rules.proofs.Precedence.{every-head, pieces-some, precede}
 use Rattle.versions.specs.declared.pieces.Place.{Place}
@@ -169,7 +169,7 @@ unfolding order-numbers lexical
 order-first Numbers a p e r b q f s g h t u =
     (λ i. order-numbers (numbers-first a p e r g i) (identifiers-first a p e r g i) (numbers-first b q f s h i) (identifiers-first b q f s h i))
     ∙ then-on (number-order (value 0 p) (value 0 q)) (lexical number-order (map (value 0) (numbers-behind e r)) (map (value 0) (numbers-behind f s)))
-        (identifiers-order (map identifier (identifiers-behind e r)) (map identifier (identifiers-behind f s)))
+    (identifiers-order (map identifier (identifiers-behind e r)) (map identifier (identifiers-behind f s)))
     ∙ ap₂ thenBy (sym (ap₂ identifier-order (as-number p (sound-numbers a p e r g t .0)) (as-number q (sound-numbers b q f s h u .0)))) (behind-numbers e f r s)
     ∙ sym (then-on (identifier-order (identifier p) (identifier q)) (end-order e f) (order-behind Numbers e r s))
 order-first Identifiers a p e r b q f s g h t u =

@@ -1,6 +1,6 @@
 -- The kind of a piece, byte by byte. Assumes nothing.
 use mathlib.Core.Path.{_≡_, refl, sym, ap, _∙_}
-use mathlib.Core.Bool.{Bool, true, false, cond, not, _&&_, _||_}
+use mathlib.Core.Bool.{Bool, true, false, cond, _&&_, _||_}
 use mathlib.Core.List.{[], _∷_}
 use Prim.Native.Nat.{ℕ, _+_, _≤_, _<_}
 use native.Mathlib.Omega.{arith}
@@ -8,14 +8,13 @@ use lib.Dec.{eqb}
 use lib.ListN.{length, getD, drop}
 use Rattle.std.proofs.shelf.Lists.{at-drop-more, at-drop-all}
 use Rattle.std.proofs.shelf.Tests.{and-from, or-left, cond-true, both-ways}
-use Rattle.std.proofs.shelf.Ways.{tells}
 use Rattle.rules.specs.Orders.{Bytes}
 use Rattle.rules.specs.Texts.{dash, digit, letter, every}
-use Rattle.rules.specs.Versions.{is-number, identifier-byte, is-word, is-identifier, value, numeric, word, identifier}
+use Rattle.rules.specs.Versions.{is-number, identifier-byte, is-identifier, value, numeric, word, identifier}
 use Rattle.rules.proofs.Precedence.{every-head, number-digits, identifier-number}
 use Rattle.versions.specs.declared.kinds.Kind.{Kind}
 use Rattle.versions.specs.declared.kinds.Kind.the-variants.{Number, Word, Other}
-use Rattle.versions.specs.Kinds.{byte-kind, spelt, kind-of}
+use Rattle.versions.specs.Kinds.{byte-kind, spelt}
 
 -- the kind of two pieces in one
 abbrev pub joined : Kind → Kind → Kind

@@ -1,18 +1,18 @@
 -- The pieces of a text, from the first of them and what ends it. Assumes nothing.
-use mathlib.Core.Path.{_≡_, refl, sym, ap, ap₂, _∙_}
-use mathlib.Core.Bool.{Bool, true, false, cond, not, _&&_}
+use mathlib.Core.Path.{_≡_, refl, ap, _∙_}
+use mathlib.Core.Bool.{Bool, true, not}
 use mathlib.Core.List.{List, [], _∷_, _++_}
-use Prim.Native.Nat.{ℕ, suc, _+_, _<_}
+use Prim.Native.Nat.{ℕ, _+_, _<_}
 use native.Mathlib.Omega.{arith}
 use lib.Dec.{eqb}
 use lib.ListN.{length}
-use Rattle.std.proofs.shelf.Lists.{append-nil, length-append}
-use Rattle.std.proofs.shelf.Tests.{and-parts, and-from, and-left, and-right, cond-false, not-true, both-ways}
+use Rattle.std.proofs.shelf.Lists.{length-append}
+use Rattle.std.proofs.shelf.Tests.{and-from, cond-false, not-true}
 use Rattle.std.proofs.shelf.Ways.{tells}
 use Rattle.rules.specs.Orders.{Bytes}
 use Rattle.rules.specs.Texts.{dash, dot, every, begun, pieces}
-use Rattle.rules.specs.Versions.{is-number, is-identifier, before-dash, behind-dash, is-release}
-use Rattle.rules.proofs.Precedence.{every-head, pieces-some}
+use Rattle.rules.specs.Versions.{before-dash, behind-dash}
+use Rattle.rules.proofs.Precedence.{every-head}
 use Rattle.versions.specs.declared.pieces.Place.{Place}
 use Rattle.versions.specs.declared.pieces.Place.the-variants.{Numbers, Identifiers}
 use Rattle.versions.specs.declared.pieces.End.{End}

@@ -54,8 +54,7 @@ pub fn is_number(piece: &[u8]) -> bool
 {
     match kind_of(piece) {
         Kind::Number => true,
-        Kind::Word => false,
-        Kind::Other => false,
+        Kind::Word | Kind::Other => false,
     }
 }
 
@@ -63,8 +62,7 @@ pub fn is_identifier(piece: &[u8]) -> bool
     ensures { λ r. ⌜ r ≡ is-identifier (now (piece .entry)) ⌝ }
 {
     match kind_of(piece) {
-        Kind::Number => true,
-        Kind::Word => true,
+        Kind::Number | Kind::Word => true,
         Kind::Other => false,
     }
 }

@@ -31,10 +31,22 @@ pub fn next_piece<'a>(text: &'a [u8], place: Place) -> Piece<'a>
 {
     for (i, b) in text.iter().enumerate() {
         match (*b as char, place) {
-            ('.', _) => return Piece { text: &text[0..i], end: End::Dot, rest: &text[i + 1..] },
-            ('-', Place::Numbers) => return Piece { text: &text[0..i], end: End::Dash, rest: &text[i + 1..] },
+            ('.', _) => return Piece {
+                text: &text[0..i],
+                end: End::Dot,
+                rest: &text[i + 1..],
+            },
+            ('-', Place::Numbers) => return Piece {
+                text: &text[0..i],
+                end: End::Dash,
+                rest: &text[i + 1..],
+            },
             _ => {}
         }
     }
-    Piece { text, end: End::Last, rest: b"" }
+    Piece {
+        text,
+        end: End::Last,
+        rest: b"",
+    }
 }

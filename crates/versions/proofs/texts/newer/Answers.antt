@@ -18,7 +18,7 @@ returns-then-not-is-version-2 c =
     sym (cond-true (is-newer (b .now) (a .now)) b a (newer-than-other (a .now) (b .now) (sym (c .if-not-is-version-2 .ensures tt)) (sym (c .if-not-is-version .ensures tt))))
 
 pub returns-in-Less : need.returns-in-Less
-returns-in-Less c = 
+returns-in-Less c =
     let a = c .args .a in
     let b = c .args .b in
     sym (cond-true (is-newer (b .now) (a .now)) b a (newer-version (a .now) (b .now) (sym (c .if-not-is-version-2 .ensures tt)) (sym (c .if-not-is-version .ensures tt)) ∙ ap isLt (sym (c .in-Less .ensures tt))))

@@ -38,7 +38,7 @@ loop-unequal-again c =
     let p = c .next-piece-p .result in
     let goes-on : p .end ≡ Last → ⊥ = grind arith in
     let next : c .match-p .place ≡ place-behind (c .loop-unequal .place) (p .end) = elim (c .match-p .came) [
-      in-Dash w ↦ w .place-is ∙ ap (place-behind (c .loop-unequal .place)) (sym (w .in-Dash .is))
+      | in-Dash w ↦ w .place-is ∙ ap (place-behind (c .loop-unequal .place)) (sym (w .in-Dash .is))
       | in-Dot w ↦ w .place-is ∙ ap (place-behind (c .loop-unequal .place)) (sym (w .in-Dot .is))
     ] in
     turn-again (c .cmp .result) (c .next-piece-p .ensures) (c .next-piece-q .ensures) (c .loop-unequal .inv) (c .compare-pieces .ensures) (c .cmp .ensures) (c .then .ensures) (c .in-Equal .is) goes-on (c .match-p .place) next
