@@ -17,7 +17,7 @@ use Rattle.versions.specs.declared.pieces.Place.{Place}
 use Rattle.versions.specs.declared.pieces.Place.the-variants.{Numbers, Identifiers}
 use Rattle.versions.specs.declared.pieces.End.{End}
 use Rattle.versions.specs.declared.pieces.End.the-variants.{Dot, Dash, Last}
-use Rattle.versions.specs.Cuts.{ends, ending, Ends-so, Begins}
+use Rattle.versions.specs.Cuts.{within, ending, Ends-so, Begins}
 
 -- ---- a first piece without the byte that ends it
 
@@ -46,11 +46,11 @@ every-weaker : (f g : ℕ → Bool) → ((b : ℕ) → f b ≡ true → g b ≡ 
 every-weaker f g h [] t = refl
 every-weaker f g h (b ∷ p) t = let (tb, ts) = every-head f b p t in and-from (g b) (every g p) (h b tb) (every-weaker f g h p ts)
 
-lacks-dot : (p : Bytes) → every (λ b. not (ends Numbers b)) p ≡ true → Lacks dot p
-lacks-dot = every-weaker (λ b. not (ends Numbers b)) (λ b. not (eqb b dot)) (λ b t. grind (arith, tells))
+lacks-dot : (p : Bytes) → every (within Numbers) p ≡ true → Lacks dot p
+lacks-dot = every-weaker (within Numbers) (λ b. not (eqb b dot)) (λ b t. grind (arith, tells))
 
-lacks-dash : (p : Bytes) → every (λ b. not (ends Numbers b)) p ≡ true → Lacks dash p
-lacks-dash = every-weaker (λ b. not (ends Numbers b)) (λ b. not (eqb b dash)) (λ b t. grind (arith, tells))
+lacks-dash : (p : Bytes) → every (within Numbers) p ≡ true → Lacks dash p
+lacks-dash = every-weaker (within Numbers) (λ b. not (eqb b dash)) (λ b t. grind (arith, tells))
 
 -- ---- what follows a piece
 

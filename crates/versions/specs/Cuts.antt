@@ -11,10 +11,10 @@ use Rattle.versions.specs.declared.pieces.Place.the-variants.{Numbers, Identif
 use Rattle.versions.specs.declared.pieces.End.{End}
 use Rattle.versions.specs.declared.pieces.End.the-variants.{Dash, Last, Dot}
 
--- a dot ends every piece, and a dash ends a number
-abbrev pub ends : Place → ℕ → Bool
-ends Numbers b = eqb b dot || eqb b dash
-ends Identifiers b = eqb b dot
+-- whether a byte is one of a piece: a dot ends every piece, and a dash ends a number
+abbrev pub within : Place → ℕ → Bool
+within Numbers b = not (eqb b dot || eqb b dash)
+within Identifiers b = not (eqb b dot)
 
 -- what ends a piece, and what follows that
 abbrev pub ending : End → Bytes → Bytes
@@ -22,7 +22,7 @@ ending Dash rest = dash ∷ rest
 ending Last rest = rest
 ending Dot rest = dot ∷ rest
 
--- whether a piece may end so, before a rest
+-- how a piece may end: no dash ends an identifier, and nothing is left behind the last
 abbrev pub Ends-so : Place → End → Bytes → Type 0
 Ends-so Numbers Dash rest = Unit {0}
 Ends-so Identifiers Dash rest = ⊥
@@ -32,5 +32,5 @@ Ends-so place Dot rest = Unit {0}
 -- a text begins with a piece, which is as long as it can be
 pub record Begins (place : Place) (text piece : Bytes) (end : End) (rest : Bytes) : Type 0 where
   pub whole : text ≡ piece ++ ending end rest
-  pub inside : every (λ b. not (ends place b)) piece ≡ true
+  pub inside : every (within place) piece ≡ true
   pub so : Ends-so place end rest

@@ -43,8 +43,7 @@ fn kind_of(piece: &[u8]) -> Kind
     ensures { λ r. ⌜ r ≡ kind-of (now (piece .entry)) ⌝ }
 {
     match (spelling(piece), piece) {
-        (Kind::Number, []) => Kind::Other,
-        (Kind::Number, [b'0', _, ..]) => Kind::Other,
+        (Kind::Number, [] | [b'0', _, ..]) => Kind::Other,
         (kind, _) => kind,
     }
 }

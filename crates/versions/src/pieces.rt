@@ -9,8 +9,8 @@ pub enum Place {
     Identifiers,
 }
 
-// What ends a piece. Of versions that are the same up to here, one with identifiers to come is below one that is over, which is below one
-// whose row of pieces goes on.
+// What ends a piece, in the order that it makes: of versions that are the same up to here, one with identifiers to come is below one that
+// is over, which is below one with more pieces of the same row.
 #[derive(Clone, Copy, PartialEq, Eq, PartialOrd, Ord)]
 pub enum End {
     Dash,
@@ -30,23 +30,13 @@ pub fn next_piece<'a>(text: &'a [u8], place: Place) -> Piece<'a>
     ensures { λ r. ⌜ Begins place (now (text .entry)) (now (r .text)) (r .end) (now (r .rest)) ⌝ }
 {
     for (i, b) in text.iter().enumerate() {
-        match (*b as char, place) {
-            ('.', _) => return Piece {
-                text: &text[0..i],
-                end: End::Dot,
-                rest: &text[i + 1..],
-            },
-            ('-', Place::Numbers) => return Piece {
-                text: &text[0..i],
-                end: End::Dash,
-                rest: &text[i + 1..],
-            },
-            _ => {}
-        }
+        let end = match (*b as char, place) {
+            ('.', _) => End::Dot,
+            ('-', Place::Numbers) => End::Dash,
+            _ => continue,
+        };
+        let rest = &text[i + 1..];
+        return Piece { text: &text[0..i], end, rest };
     }
-    Piece {
-        text,
-        end: End::Last,
-        rest: b"",
-    }
+    Piece { text, end: End::Last, rest: b"" }
 }
