@@ -1,0 +1,7 @@
+pub mod Cuts
+pub mod Numbers
+pub mod Spelling
+pub mod Steps
+pub mod Releases
+pub mod Ranks
+pub mod Others
