@@ -5,3 +5,4 @@ pub mod Steps
 pub mod Releases
 pub mod Ranks
 pub mod Others
+pub mod Told

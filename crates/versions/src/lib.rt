@@ -4,3 +4,4 @@
 mod kinds;
 mod pieces;
 pub mod texts;
+pub mod version;
