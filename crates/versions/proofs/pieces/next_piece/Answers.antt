@@ -15,7 +15,7 @@ returns-in-loop-i c =
     let text = c .args .text .now in
     let i = c .loop-i .i in
     elim (c .match-b .came) [
-      in-46-rest w ↦ subst (Begins-at place text i) (sym (w .end-is)) (begins-dot place text i (c .loop-i-test .taken) (c .loop-i .inv) (w .in-46-rest .is-0))
+      | in-46-rest w ↦ subst (Begins-at place text i) (sym (w .end-is)) (begins-dot place text i (c .loop-i-test .taken) (c .loop-i .inv) (w .in-46-rest .is-0))
       | in-45-Numbers w ↦ subst (Begins-at place text i) (sym (w .end-is)) (begins-dash place text i (c .loop-i-test .taken) (c .loop-i .inv) (w .in-45-Numbers .is-0) (w .in-45-Numbers .is-1))
     ]
 
