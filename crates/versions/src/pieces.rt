@@ -35,10 +35,11 @@ pub fn next_piece<'a>(text: &'a [u8], place: Place) -> Piece<'a>
             ('-', Place::Numbers) => End::Dash,
             _ => continue,
         };
+        let rest = &text[i + 1..];
         return Piece {
             text: &text[0..i],
             end,
-            rest: &text[i + 1..],
+            rest,
         };
     }
     Piece {
