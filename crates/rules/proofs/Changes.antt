@@ -19,7 +19,7 @@ use Rattle.rules.specs.Tables.{met}
 use Rattle.rules.specs.Rows.{own, path-of, higher, Ascending-rows, row-of, with-row, Ascending-exclusions, with-exclusion, No-row}
 use Rattle.rules.specs.Causes.{number, table-full, nothing-to-change}
 use Rattle.rules.specs.Sources.{Meaning}
-use Rattle.rules.specs.Projects.{State, with-rows, with-exclusions}
+use Rattle.rules.specs.Projects.{State, with-rows, with-exclusions, Only-rows-change, Only-exclusions-change}
 use Rattle.rules.specs.Calls.{Reply, accepted, counted, refused, Outcome, refusal-for, refuses, unless, raised, dropped, excluded, does}
 use Rattle.rules.specs.Runs.{after, fresh}
 use Rattle.rules.specs.Changes.{Accepted, Refused-with, Changes, Changes-right}
@@ -104,6 +104,16 @@ module _ (s : State) (x : ModuleVersion) (a : Ascending-rows (s .rows)) (o : Out
   raise-full (is-full none l e) = (λ q. (none, l), λ h. ap (λ w. w .reply) e)
   raise-full (is-raised new room ok e) = (λ q. let r = sym q ∙ ok in let z : _≡_ {A = ℕ} 0 1 = cc in absurd (omega arith), λ (none, l). absurd (omega (arith, room none)))
 
+  raise-rest : Raising s x o → Only-rows-change s (o .state)
+  raise-rest (is-high st e) = (ap (λ w. w .state .main) e, ap (λ w. w .state .exclusions) e)
+  raise-rest (is-full none l e) = (ap (λ w. w .state .main) e, ap (λ w. w .state .exclusions) e)
+  raise-rest (is-raised new room ok e) = (ap (λ w. w .main) e, ap (λ w. w .exclusions) e)
+
+  raise-accepted : Raising s x o → Accepted o ↔ ((Stands x (s .rows) → ⊥) × (No-row (x .path) (s .rows) → length (s .rows) < 256))
+  raise-accepted (is-high st e) = (λ q. let r = sym q ∙ ap (λ w. w .reply) e in let z : _≡_ {A = ℕ} 0 1 = cc in absurd (omega arith), λ (new, room). absurd (new st))
+  raise-accepted (is-full none l e) = (λ q. let r = sym q ∙ ap (λ w. w .reply) e in let z : _≡_ {A = ℕ} 0 1 = cc in absurd (omega arith), λ (new, room). absurd (omega (arith, room none)))
+  raise-accepted (is-raised new room ok e) = (λ q. (new, room), λ h. ok)
+
 -- a drop
 
 drop-rows : (s : State) (p : Bytes) → Ascending-rows (s .rows) → (o : Option ModuleVersion) → Accepted (dropped s p o)
@@ -117,6 +127,14 @@ drop-none s p a (Some y) e =
     let (h, q) = lookup-there path-of path-order paths p (s .rows) y e in
     (λ r. let z : _≡_ {A = ℕ} 0 1 = cc in absurd (omega arith), λ none. absurd (none y h q))
 drop-none s p a None e = (λ r. lookup-misses path-of path-order paths p (s .rows) a e, λ none. refl)
+
+drop-rest : (s : State) (p : Bytes) (o : Option ModuleVersion) → Only-rows-change s (dropped s p o .state)
+drop-rest s p (Some y) = (refl, refl)
+drop-rest s p None = (refl, refl)
+
+drop-accepted : (s : State) (p : Bytes) → Ascending-rows (s .rows) → (o : Option ModuleVersion) → row-of p (s .rows) ≡ o → Accepted (dropped s p o) ↔ (No-row p (s .rows) → ⊥)
+drop-accepted s p a (Some y) e = let (h, q) = lookup-there path-of path-order paths p (s .rows) y e in (λ r none. none y h q, λ some. refl)
+drop-accepted s p a None e = (λ r. let z : _≡_ {A = ℕ} 0 1 = cc in absurd (omega arith), λ some. absurd (some (lookup-misses path-of path-order paths p (s .rows) a e)))
 
 -- an exclude
 
@@ -153,6 +171,16 @@ module _ (s : State) (x : ModuleVersion) (o : Outcome) where
   exclude-full (is-full n l e) = (λ q. (n, l), λ h. ap (λ w. w .reply) e)
   exclude-full (is-put n l ok e) = (λ q. let r = sym q ∙ ok in let z : _≡_ {A = ℕ} 0 1 = cc in absurd (omega arith), λ (k, j). absurd (omega arith))
 
+  exclude-rest : Excluding s x o → Only-exclusions-change s (o .state)
+  exclude-rest (is-there h e) = (ap (λ w. w .state .main) e, ap (λ w. w .state .rows) e)
+  exclude-rest (is-full n l e) = (ap (λ w. w .state .main) e, ap (λ w. w .state .rows) e)
+  exclude-rest (is-put n l ok e) = (ap (λ w. w .main) e, ap (λ w. w .rows) e)
+
+  exclude-accepted : Excluding s x o → Accepted o ↔ ((x ∈ s .exclusions → ⊥) × (length (s .exclusions) < 32))
+  exclude-accepted (is-there h e) = (λ q. let r = sym q ∙ ap (λ w. w .reply) e in let z : _≡_ {A = ℕ} 0 1 = cc in absurd (omega arith), λ (n, l). absurd (n h))
+  exclude-accepted (is-full n l e) = (λ q. let r = sym q ∙ ap (λ w. w .reply) e in let z : _≡_ {A = ℕ} 0 1 = cc in absurd (omega arith), λ (k, j). absurd (omega arith))
+  exclude-accepted (is-put n l ok e) = (λ q. (n, l), λ h. ok)
+
 changes : (m : Meaning) (s : State) → Ascending-rows (s .rows) → Ascending-exclusions (s .exclusions) → Changes m s
 unfolding does
 changes m s a b = record {
@@ -164,11 +192,18 @@ changes m s a b = record {
   raise-rows = λ x. raise-rows s x a (raised s x (row-of (x .path) (s .rows))) (raising s x a (row-of (x .path) (s .rows)) refl);
   raise-not-higher = λ x. raise-high s x a (raised s x (row-of (x .path) (s .rows))) (raising s x a (row-of (x .path) (s .rows)) refl);
   raise-table-full = λ x. raise-full s x a (raised s x (row-of (x .path) (s .rows))) (raising s x a (row-of (x .path) (s .rows)) refl);
+  load-unread = λ c line. refl;
+  raise-rest = λ x. raise-rest s x a (raised s x (row-of (x .path) (s .rows))) (raising s x a (row-of (x .path) (s .rows)) refl);
+  raise-accepted = λ x. raise-accepted s x a (raised s x (row-of (x .path) (s .rows))) (raising s x a (row-of (x .path) (s .rows)) refl);
   drop-rows = λ p. drop-rows s p a (row-of p (s .rows));
   drop-no-row = λ p. drop-none s p a (row-of p (s .rows)) refl;
+  drop-rest = λ p. drop-rest s p (row-of p (s .rows));
+  drop-accepted = λ p. drop-accepted s p a (row-of p (s .rows)) refl;
   exclude-exclusions = λ x. exclude-put s x (excluded s x) b (leaving-out s x);
   exclude-present = λ x. exclude-there s x (excluded s x) (leaving-out s x);
   exclude-table-full = λ x. exclude-full s x (excluded s x) (leaving-out s x);
+  exclude-rest = λ x. exclude-rest s x (excluded s x) (leaving-out s x);
+  exclude-accepted = λ x. exclude-accepted s x (excluded s x) (leaving-out s x);
 }
 
 pub changes-right : Changes-right

@@ -88,7 +88,7 @@ module _ (m : Meaning) (law : Lawful m) (s : State) (p v : Bytes) (ok : lower-wa
       offer =
           let (vs, l) = listings m s cs ok c k in
           let ((ys, g), under) = fits x itself in
-          let listed = layer-lawful m (s .exclusions) law (c .path) vs l .1 (x .version) ys (rw same g) in
+          let listed = layer-lawful m (s .exclusions) law .whole (c .path) vs l (x .version) ys (rw same g) in
           subst (λ w. w ∈ offers (view m s .layer) cs) same (offers-holds (view m s .layer) cs c k vs l (x .version) listed (upto-ceiling cs x c under k q))
 
   -- a sound set's members fit

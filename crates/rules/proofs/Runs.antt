@@ -312,7 +312,7 @@ lowers-right m law s p v n g =
       old = old-list m s;
       gives = ((length (lower-walk m s (ceilings-at m s p v) .sheet), refl), refl);
       least = list-right-at m s l;
-      state = refl;
+      rest = (refl, refl);
       kept = kept;
       relisted = λ k wk. (list-of (then m s p v) (list-walk m (then m s p v) .sheet), list-gives m (then m s p v) k wk (again .listed), again .shows);
     })

@@ -5,7 +5,6 @@ use mathlib.Core.Bool.{Bool, true, false, not, cond}
 use mathlib.Core.List.{List, [], _∷_, _++_, map}
 use Prim.Native.Nat.{ℕ, suc}
 use lib.Chars.{codes}
-use lib.Dec.{eqb}
 use lib.ListN.{length, take, replicate}
 use Rattle.std.specs.Orderings.{isEq}
 use Rattle.std.specs.shelf.Lists.{All, kept-by}
@@ -17,7 +16,7 @@ use Rattle.rules.specs.Orders.{Bytes}
 use Rattle.rules.specs.Texts.{slash}
 use Rattle.rules.specs.Paths.{is-path}
 use Rattle.rules.specs.Versions.{is-version, version-order, is-newer}
-use Rattle.rules.specs.Names.{ModuleVersion, module-order, at, same, same-path}
+use Rattle.rules.specs.Names.{ModuleVersion, module-order, at, same, same-path, has}
 use Rattle.rules.specs.Tables.{lookup}
 use Rattle.rules.specs.Causes.{wrong-shape, bad-version, missing, damaged-buffer, slice-too-short, too-many-module-versions, nothing-to-change, Fault, Refusal}
 use Rattle.rules.specs.Sources.{Answer, found, fault, Meaning, missing-here, falling-back, Lawful}
@@ -175,17 +174,23 @@ half-listing = record { requirements = book network .requirements; listing = λ 
 abbrev pub worn-network : Meaning
 worn-network = record { requirements = λ x. cond (same x rain9) (fault worn) (book old-network .requirements x); listing = book old-network .listing }
 
--- Every path has the one version v1.0.0. A path of one byte requires fifty others, and they nothing.
+-- Every path has the one version v1.0.0. Five paths of one byte require fifty others each, and these nothing: with the main module 256.
 
 abbrev pub v1 : Bytes
 v1 = codes "v1.0.0"
+
+abbrev pub five : List Bytes
+five = map codes ("a" ∷ "b" ∷ "c" ∷ "d" ∷ "e" ∷ [])
+
+abbrev pub tops : List ModuleVersion
+tops = map (λ p. at p v1) five
 
 abbrev pub fan : Bytes → List ModuleVersion
 fan p = map (λ b. at (p ++ slash ∷ b ∷ []) v1) (codes "0123456789ABCDEFGHIJKLMNOPQRSTUVWXYZabcdefghijklmn")
 
 abbrev pub fans : Meaning
 fans = record {
-  requirements = λ x. cond (isEq (version-order (x .version) v1)) (found (cond (eqb (length (x .path)) 1) (fan (x .path)) [])) (fault missing-here);
+  requirements = λ x. cond (isEq (version-order (x .version) v1)) (found (cond (has tops x) (fan (x .path)) [])) (fault missing-here);
   listing = λ p. found (v1 ∷ []);
 }
 
@@ -271,13 +276,7 @@ upper-sheet = from 0 main-upper ∷ from 0 rain ∷ from 0 trunk0 ∷ from 1 tru
 abbrev pub lowered-state : State
 lowered-state = state (codes "upper") (outfall1 ∷ rain ∷ trunk2 ∷ []) []
 
--- five paths of one byte, with fifty each below them: with the main module 256
-abbrev pub five : List Bytes
-five = map codes ("a" ∷ "b" ∷ "c" ∷ "d" ∷ "e" ∷ [])
-
-abbrev pub tops : List ModuleVersion
-tops = map (λ p. at p v1) five
-
+-- the fans of the five paths
 abbrev pub five-list : List Bytes → List ModuleVersion
 five-list [] = []
 five-list (p ∷ ps) = at p v1 ∷ fan p ++ five-list ps

@@ -7,12 +7,14 @@ pub mod Tables
 pub mod Rows
 pub mod Causes
 pub mod Sources
+pub mod Layers
 pub mod Projects
 pub mod Walks
 pub mod Lists
 pub mod Faults
 pub mod Lowers
 pub mod Slices
+pub mod Questions
 pub mod Calls
 pub mod Runs
 pub mod Changes

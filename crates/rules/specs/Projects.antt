@@ -27,6 +27,13 @@ with-rows s rows = record { main = s .main; rows = rows; exclusions = s .exclusi
 abbrev pub with-exclusions : State → List ModuleVersion → State
 with-exclusions s es = record { main = s .main; rows = s .rows; exclusions = es }
 
+-- of two states the second differs in its rows, or in its exclusions, at most
+abbrev pub Only-rows-change : State → State → Type 0
+Only-rows-change s t = (t .main ≡ s .main) × (t .exclusions ≡ s .exclusions)
+
+abbrev pub Only-exclusions-change : State → State → Type 0
+Only-exclusions-change s t = (t .main ≡ s .main) × (t .rows ≡ s .rows)
+
 -- The main module as a row. Its version is only written, and never compared: it is not the module version of that name.
 abbrev pub main-row : State → ModuleVersion
 main-row s = record { path = s .main; version = codes "v0.0.0" }

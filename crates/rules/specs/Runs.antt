@@ -13,7 +13,7 @@ use Rattle.rules.specs.Names.{ModuleVersion, Below, _∈_, Distinct}
 use Rattle.rules.specs.Rows.{Ascending-rows, Ascending-exclusions}
 use Rattle.rules.specs.Causes.{too-many-module-versions, nothing-to-change, Refusal, Fault}
 use Rattle.rules.specs.Sources.{Meaning, Lawful}
-use Rattle.rules.specs.Projects.{State, with-rows, main-row, view, Reached, Few, Many}
+use Rattle.rules.specs.Projects.{State, Only-rows-change, main-row, view, Reached, Few, Many}
 use Rattle.rules.specs.Walks.{Place, module-versions}
 use Rattle.rules.specs.Lists.{Is-list, Least-fit}
 use Rattle.rules.specs.Faults.{Broken, Shown-on}
@@ -71,7 +71,7 @@ module _ (m : Meaning) (s : State) where
     pub gives : Gives o n old
     pub least : Least old
     -- of the state only the rows are changed
-    pub state : o .state ≡ with-rows s (o .state .rows)
+    pub rest : Only-rows-change s (o .state)
     -- the rows are the highest that can stand together under the ceilings, as the state sees other modules then
     pub kept : Kept-right (view m (o .state)) (ceilings p v old) (o .state .rows)
     -- a list taken right then, in slices long enough, is given, and on the old paths shows exactly the rows

@@ -6,12 +6,16 @@ use Prim.Native.Nat.{ℕ, _-_}
 use lib.Chars.{codes}
 use lib.Dec.{leb}
 use lib.ListN.{length, take, replicate}
+use Rattle.rules.specs.Orders.{Bytes}
 use Rattle.rules.specs.Names.{ModuleVersion}
 use Rattle.rules.specs.Walks.{Place}
 
--- the blank row, and the blank place of a sheet
+-- the blank version, the blank row, and the blank place of a sheet
+abbrev pub blank-version : Bytes
+blank-version = codes "v0.0.0"
+
 abbrev pub blank : ModuleVersion
-blank = record { path = codes "_"; version = codes "v0.0.0" }
+blank = record { path = codes "_"; version = blank-version }
 
 abbrev pub blank-place : Place
 blank-place = record { row = blank; from = 0 }

@@ -1,19 +1,21 @@
 -- Sources and layers. What a source means is a function: each module version has a requirement list or a fault, and each path has a listing, its
--- versions ascending, or a fault. A meaning is lawful if a listing that is no fault holds every version that has a requirement list.
+-- versions ascending, or a fault. A meaning is lawful if lists and listings have at most 64 members, all well formed, if a listing that is no
+-- fault holds every version that has a requirement list, and if no fault is deeper than 255.
 -- A layer is a source over others; a fault from below goes up with its depth one more, up to 255. The exclude layer has some module versions
 -- missing: it finds no list for them, leaves them out of the lists of others, and lists none of them. The fallback layer asks a second source
 -- where the first has a manifest missing, and only there; its listing is both listings joined, if both are found and together have at most 64
 -- versions. Assumes nothing.
 use mathlib.Core.Path.{_≡_}
-use mathlib.Core.Bool.{cond, not}
+use mathlib.Core.Bool.{true, cond, not}
 use mathlib.Core.List.{List, []}
-use Prim.Native.Nat.{_+_, min}
+use Prim.Native.Nat.{_+_, min, _≤_}
 use lib.Dec.{ltb}
 use lib.ListN.{length}
-use Rattle.std.specs.shelf.Lists.{kept-by}
+use Rattle.std.specs.shelf.Lists.{All, kept-by}
 use Rattle.rules.specs.Orders.{Bytes}
+use Rattle.rules.specs.Versions.{is-version}
 use Rattle.rules.specs.Causes.{missing, too-many-to-list, is-missing, Fault}
-use Rattle.rules.specs.Names.{ModuleVersion, at, has, _∈_}
+use Rattle.rules.specs.Names.{ModuleVersion, is-module-version, at, has, _∈_}
 use Rattle.rules.specs.Rows.{Ascending-versions, joined-versions}
 
 -- what a question is answered
@@ -27,10 +29,20 @@ pub record Meaning : Type 0 where
   -- the versions of a path
   pub listing : Bytes → Answer (List Bytes)
 
--- A listing that is found ascends, and holds every version of the path that has a requirement list.
-abbrev pub Lawful : Meaning → Type 0
-Lawful m = (p : Bytes) (vs : List Bytes) → m .listing p ≡ found vs
-    → Ascending-versions vs × ((v : Bytes) (rs : List ModuleVersion) → m .requirements (at p v) ≡ found rs → v ∈ vs)
+-- What the meaning of every source obeys.
+pub record Lawful (m : Meaning) : Type 0 where
+  -- a requirement list that is found has at most 64 rows, each well formed
+  pub few-rows : (x : ModuleVersion) (rs : List ModuleVersion) → m .requirements x ≡ found rs → length rs ≤ 64
+  pub rows-formed : (x : ModuleVersion) (rs : List ModuleVersion) → m .requirements x ≡ found rs → All (λ r. is-module-version r ≡ true) rs
+  -- a listing that is found has at most 64 versions, ascending, and so each once
+  pub few-versions : (p : Bytes) (vs : List Bytes) → m .listing p ≡ found vs → length vs ≤ 64
+  pub versions-formed : (p : Bytes) (vs : List Bytes) → m .listing p ≡ found vs → All (λ v. is-version v ≡ true) vs
+  pub ascending : (p : Bytes) (vs : List Bytes) → m .listing p ≡ found vs → Ascending-versions vs
+  -- and holds every version of the path that has a requirement list
+  pub whole : (p : Bytes) (vs : List Bytes) → m .listing p ≡ found vs → (v : Bytes) (rs : List ModuleVersion) → m .requirements (at p v) ≡ found rs → v ∈ vs
+  -- no fault is deeper than 255
+  pub requirements-depth : (x : ModuleVersion) (f : Fault) → m .requirements x ≡ fault f → f .depth ≤ 255
+  pub listing-depth : (p : Bytes) (f : Fault) → m .listing p ≡ fault f → f .depth ≤ 255
 
 -- the members of what is found
 abbrev pub found-in : {A : Type 0} → Answer (List A) → List A
@@ -65,10 +77,6 @@ excluding es m = record {
   listing = λ p. passed-up (narrowed (kept-by (λ v. not (has es (at p v)))) (m .listing p));
 }
 
--- THE LAYER: over a lawful meaning the exclude layer is lawful
-abbrev pub Layer-lawful : Type 0
-Layer-lawful = (m : Meaning) (es : List ModuleVersion) → Lawful m → Lawful (excluding es m)
-
 -- where the first says that the manifest is missing, the second's answer stands
 abbrev pub or-else : {A : Type 0} → Answer A → Answer A → Answer A
 or-else (found a) b = found a
@@ -93,7 +101,3 @@ falling-back a b = record {
   requirements = λ x. passed-up (or-else (a .requirements x) (b .requirements x));
   listing = λ p. at-most-64 (passed-up (both-listed (a .listing p) (b .listing p)));
 }
-
--- THE FALLBACK: over lawful meanings the fallback layer is lawful
-abbrev pub Fallback-lawful : Type 0
-Fallback-lawful = (a b : Meaning) → Lawful a → Lawful b → Lawful (falling-back a b)

@@ -2,7 +2,8 @@
 // one such claim, so that the crate is proved only if the claim is. The functions do nothing.
 ghost use Rattle.rules.specs.Names.{Orders-right};
 ghost use Rattle.rules.specs.Tables.{Tables-right};
-ghost use Rattle.rules.specs.Sources.{Layer-lawful, Fallback-lawful};
+ghost use Rattle.rules.specs.Layers.{Layer-right, Fallback-right, Two-layers-right, Pile-right};
+ghost use Rattle.rules.specs.Questions.{Questions-right};
 ghost use Rattle.rules.specs.Lists.{List-right};
 ghost use Rattle.rules.specs.Faults.{Refusal-right};
 ghost use Rattle.rules.specs.Lowers.{Lower-right, Kept-meant};
@@ -24,16 +25,37 @@ pub fn tables_stand<T, K>() -> u8
     0
 }
 
-// Over a lawful meaning the exclude layer is lawful.
+// Over a lawful meaning the exclude layer is lawful; and what it answers.
 pub fn layer_stands() -> u8
-    ensures { λ _. ⌜ Layer-lawful ⌝ }
+    ensures { λ _. ⌜ Layer-right ⌝ }
 {
     0
 }
 
-// Over lawful meanings the fallback layer is lawful.
+// Over lawful meanings the fallback layer is lawful; and what it answers.
 pub fn fallback_stands() -> u8
-    ensures { λ _. ⌜ Fallback-lawful ⌝ }
+    ensures { λ _. ⌜ Fallback-right ⌝ }
+{
+    0
+}
+
+// What an exclude layer over a fallback answers, and a fallback over two exclude layers.
+pub fn two_layers_stand() -> u8
+    ensures { λ _. ⌜ Two-layers-right ⌝ }
+{
+    0
+}
+
+// Every pile of layers on lawful sources is lawful.
+pub fn pile_stands() -> u8
+    ensures { λ _. ⌜ Pile-right ⌝ }
+{
+    0
+}
+
+// What a question in a lent slice answers, and what the slice then holds.
+pub fn questions_stand() -> u8
+    ensures { λ _. ⌜ Questions-right ⌝ }
 {
     0
 }
