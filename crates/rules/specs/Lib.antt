@@ -5,6 +5,9 @@ pub mod Versions
 pub mod Names
 pub mod Tables
 pub mod Causes
+pub mod Lines
+pub mod Manifests
+pub mod ManifestExamples
 pub mod Sources
 pub mod Projects
 pub mod Walks
