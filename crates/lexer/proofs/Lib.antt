@@ -1,2 +1,3 @@
 pub mod Coded
 pub mod Pieced
+pub mod Spelled
