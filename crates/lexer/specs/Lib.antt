@@ -1,3 +1,5 @@
 pub mod Cuts
 pub mod Lefts
 pub mod Told
+pub mod Brackets
+pub mod Slots

@@ -3,3 +3,4 @@
 // copied: lines and words borrow the text.
 pub mod lines;
 pub mod words;
+pub mod slots;
