@@ -3,3 +3,4 @@ pub mod Pieced
 pub mod Spelled
 pub mod Tested
 pub mod Unbracketed
+pub mod Shaped

@@ -3,3 +3,4 @@ pub mod Lefts
 pub mod Told
 pub mod Brackets
 pub mod Slots
+pub mod Shapes

@@ -4,3 +4,5 @@
 pub mod lines;
 pub mod words;
 pub mod slots;
+pub mod verbs;
+pub mod shapes;
