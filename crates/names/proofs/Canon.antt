@@ -28,10 +28,10 @@ same-bytes : (n : ℕ) (a b : List ℕ) (i j : ℕ) → Padded n a i → Padded 
 same-bytes n a b i j p q e =
     let l = same-len n a b i j p q e in
     ext-getD 0 a b (p .0 ∙ sym (q .0)) (λ k h.
-        ⊎-elim
-        (λ lt. sym (getD-take i a k 0 lt) ∙ ap (λ s. getD s k 0) e ∙ getD-take j b k 0 (omega arith))
-        (λ ge. p .2 k ge ∙ sym (q .2 k (omega arith)))
-        (cases-lt k i))
+    ⊎-elim
+    (λ lt. sym (getD-take i a k 0 lt) ∙ ap (λ s. getD s k 0) e ∙ getD-take j b k 0 (omega arith))
+    (λ ge. p .2 k ge ∙ sym (q .2 k (omega arith)))
+    (cases-lt k i))
 
 pub same-text : (p q : Text) → text-bytes p ≡ text-bytes q → p ≡ q
 same-text p q e =

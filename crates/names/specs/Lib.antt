@@ -1,4 +1,3 @@
-pub mod Checks
 pub mod Padding
 pub mod Texts
 pub mod Paths

@@ -1,0 +1,5 @@
+pub mod Seeking
+pub mod Found
+pub mod Shifted
+pub mod Joining
+pub mod Ascents

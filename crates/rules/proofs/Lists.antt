@@ -8,10 +8,11 @@ use Rattle.rules.specs.Names.{ModuleVersion, same-path, Stands, _∈_}
 use Rattle.rules.specs.Sources.{Meaning}
 use Rattle.rules.specs.Projects.{State, main-row, off-main, Reached}
 use Rattle.rules.specs.Walks.{Place, module-versions, done, list-walk}
-use Rattle.rules.specs.Lists.{table, list-of, Is-list, Fit, Nowhere-above, Least-fit, List-right-at, List-right}
+use Rattle.rules.specs.Rows.{table}
+use Rattle.rules.specs.Lists.{list-of, Is-list, Fit, Nowhere-above, Least-fit, List-right-at, List-right}
 use Rattle.rules.proofs.Members.{kept-member, kept-was, all-member, all-from-members}
 use Rattle.rules.proofs.Order.{not-equal-test, paths}
-use Rattle.rules.proofs.Tables.{stands-member, table-was, table-stands, table-ascending, tables-same}
+use Rattle.rules.proofs.Rows.{stands-member, table-was, table-stands, table-ascending, tables-same}
 use Rattle.rules.proofs.Reached.{off-main-apart, reached-main, main-or-apart, sheet-reached, reached-sheet}
 
 pub stands-further : (w x : ModuleVersion) (ys : List ModuleVersion) → Stands x ys → Stands x (w ∷ ys)
@@ -20,11 +21,11 @@ stands-further w x ys (y, h, p, u) = (y, inr h, p, u)
 module _ (s : State) where
   pub is-list : (sheet : List Place) → Is-list s (list-of s sheet)
   is-list sheet = (
-    table (off-main s (module-versions sheet)),
+    table (off-main (s .main) (module-versions sheet)),
     refl,
-    table-ascending (off-main s (module-versions sheet)),
-    all-from-members _ (table (off-main s (module-versions sheet)))
-        (λ x h. off-main-apart s x (kept-was (λ y. not (same-path y (s .main))) (module-versions sheet) x (table-was (off-main s (module-versions sheet)) x h) .1)),
+    table-ascending (off-main (s .main) (module-versions sheet)),
+    all-from-members _ (table (off-main (s .main) (module-versions sheet)))
+        (λ x h. off-main-apart (s .main) x (kept-was (λ y. not (same-path y (s .main))) (module-versions sheet) x (table-was (off-main (s .main) (module-versions sheet)) x h) .1)),
   )
 
   -- behind the main row
@@ -44,13 +45,13 @@ module _ (m : Meaning) (s : State) where
   pub shown-reached : (x : ModuleVersion) → x ∈ list-of s (list-walk m s .sheet) → Reached m s x
   shown-reached x (inl e) = rw e (reached-main m s)
   shown-reached x (inr h) =
-      sheet-reached m s x (kept-was (λ y. not (same-path y (s .main))) (module-versions (list-walk m s .sheet)) x (table-was (off-main s (module-versions (list-walk m s .sheet))) x h) .0)
+      sheet-reached m s x (kept-was (λ y. not (same-path y (s .main))) (module-versions (list-walk m s .sheet)) x (table-was (off-main (s .main) (module-versions (list-walk m s .sheet))) x h) .0)
 
   pub list-fit : list-walk m s .end ≡ done → Fit m s (list-of s (list-walk m s .sheet))
   list-fit ok x r =
       ⊎-elim (λ e. stands-member x (list-of s (list-walk m s .sheet)) (inl e))
-      (λ apart. stands-further (main-row s) x (table (off-main s (module-versions (list-walk m s .sheet))))
-      (table-stands (off-main s (module-versions (list-walk m s .sheet))) x
+      (λ apart. stands-further (main-row s) x (table (off-main (s .main) (module-versions (list-walk m s .sheet))))
+      (table-stands (off-main (s .main) (module-versions (list-walk m s .sheet))) x
       (kept-member (λ y. not (same-path y (s .main))) (module-versions (list-walk m s .sheet)) x (reached-sheet m s ok x r) (ap not (not-equal-test paths (x .path) (s .main) apart)))))
       (main-or-apart m s x r)
 

@@ -1,7 +1,7 @@
 -- Members of lists: the test `has`, what a filter keeps, and how many distinct members a list can have. Assumes nothing.
 use mathlib.Core.Path.{_≡_, refl, sym, ap, _∙_}
 use mathlib.Core.Bool.{Bool, true, false, cond, true≢false}
-use mathlib.Core.List.{List, [], _∷_, _++_}
+use mathlib.Core.List.{List, [], _∷_, _++_, map}
 use mathlib.Core.Logic.{_⊎_, inl, inr, ⊎-elim}
 use Prim.Native.Nat.{suc, _≤_, zero-le, suc-le-suc}
 use lib.ListN.{length}
@@ -53,6 +53,11 @@ pub member-either : {A : Type 0} (xs ys : List A) (x : A) → x ∈ (xs ++ ys) �
 member-either [] ys x h = inr h
 member-either (y ∷ xs) ys x (inl e) = inl (inl e)
 member-either (y ∷ xs) ys x (inr h) = ⊎-elim (λ k. inl (inr k)) (λ k. inr k) (member-either xs ys x h)
+
+pub member-map : {A B : Type 0} (f : A → B) (xs : List A) (x : A) → x ∈ xs → f x ∈ map f xs
+member-map f [] x h = absurd h
+member-map f (y ∷ ys) x (inl e) = inl (ap f e)
+member-map f (y ∷ ys) x (inr h) = inr (member-map f ys x h)
 
 pub all-member : {A : Type 0} (P : A → Type 0) (xs : List A) → All P xs → (x : A) → x ∈ xs → P x
 all-member P [] h x k = absurd k

@@ -12,27 +12,27 @@ use Rattle.std.proofs.shelf.Tests.{and-parts, or-cases, ltb-false}
 use Rattle.rules.specs.Orders.{Bytes}
 use Rattle.rules.specs.Paths.{path-order}
 use Rattle.rules.specs.Versions.{version-order}
-use Rattle.rules.specs.Names.{ModuleVersion, same-path, Upto, _∈_}
+use Rattle.rules.specs.Names.{ModuleVersion, same-path, Upto, _∈_, at}
 use Rattle.rules.specs.Causes.{Fault, is-missing}
-use Rattle.rules.specs.Sources.{Answer, given, refused, Meaning, at, narrowed, included}
-use Rattle.rules.specs.Projects.{State, off-main, layered, remaining}
-use Rattle.rules.specs.Walks.{Place, written, done, full, Walked, ended}
+use Rattle.rules.specs.Sources.{Answer, found, fault, Meaning, narrowed, found-in}
+use Rattle.rules.specs.Projects.{State, off-main, View, remaining}
+use Rattle.rules.specs.Walks.{Place, written, done, no-room, Walked, ended}
 use Rattle.rules.specs.Lists.{Is-list}
-use Rattle.rules.specs.Lowers.{lowered, ceilings, Old, Above, above, under, versions-in, offered, listed, offers, excused, Gone, lower-ask}
-use Rattle.rules.proofs.Order.{equal-from-test, not-equal-test, before-from-less, Ways, ways, before, equal, after, upto-before, upto-equal, paths, versions}
+use Rattle.rules.specs.Lowers.{ceiling-of, ceilings, On-old-path, Above, is-above, offer, offers, offer-written, offers-written, excused, Missing, lower-ask}
+use Rattle.rules.proofs.Order.{equal-from-test, before-from-less, Ways, ways, before, equal, after, upto-before, upto-equal, paths, versions}
 use Rattle.rules.proofs.Turns.{written-append}
 use Rattle.rules.proofs.Members.{member-left, member-right, member-either, all-member}
 
 -- above a ceiling
 
-pub above-from-test : (cs : List ModuleVersion) (x : ModuleVersion) → above cs x ≡ true → Above cs x
+pub above-from-test : (cs : List ModuleVersion) (x : ModuleVersion) → is-above cs x ≡ true → Above cs x
 above-from-test [] x t = absurd (true≢false (sym t))
 above-from-test (c ∷ cs) x t =
     ⊎-elim
     (λ h. let (p, v) = and-parts (isEq (path-order (c .path) (x .path))) (isLt (version-order (c .version) (x .version))) h in
     (c, inl refl, equal-from-test paths (c .path) (x .path) p, before-from-less versions (c .version) (x .version) v))
     (λ h. let (d, k, p, v) = above-from-test cs x h in (d, inr k, p, v))
-    (or-cases (isEq (path-order (c .path) (x .path)) && isLt (version-order (c .version) (x .version))) (above cs x) t)
+    (or-cases (isEq (path-order (c .path) (x .path)) && isLt (version-order (c .version) (x .version))) (is-above cs x) t)
 
 -- at or under it
 pub upto-ceiling : (cs : List ModuleVersion) (x c : ModuleVersion) → (Above cs x → ⊥) → c ∈ cs → c .path ≡ x .path → Upto (x .version) (c .version)
@@ -43,8 +43,8 @@ upto-ceiling cs x c n h p = go (ways versions (x .version) (c .version))
     go (equal e) = upto-equal versions (x .version) (c .version) e
     go (after k) = absurd (n (c, h, p, k))
 
-lowered-path : (p v : Bytes) (x : ModuleVersion) → lowered p v x .path ≡ x .path
-lowered-path p v x = go (same-path x p)
+ceiling-path : (p v : Bytes) (x : ModuleVersion) → ceiling-of p v x .path ≡ x .path
+ceiling-path p v x = go (same-path x p)
   where
     go : (b : Bool) → cond b (at (x .path) v) x .path ≡ x .path
     go true = refl
@@ -58,107 +58,100 @@ mapped-was f (x ∷ xs) y (inr h) = let (z, k, e) = mapped-was f xs y h in (z, i
 -- no ceiling is on the main path
 pub ceilings-apart : (s : State) (p v : Bytes) (l : List ModuleVersion) → Is-list s l → (c : ModuleVersion) → c ∈ ceilings p v l → c .path ≡ s .main → ⊥
 ceilings-apart s p v l (xs, e, a, apart) c h q =
-    let (x, k, f) = mapped-was (lowered p v) xs c (subst (λ z. c ∈ ceilings p v z) e h) in
-    all-member _ xs apart x k (sym (lowered-path p v x) ∙ ap (λ w. w .path) (sym f) ∙ q)
+    let (x, k, f) = mapped-was (ceiling-of p v) xs c (subst (λ z. c ∈ ceilings p v z) e h) in
+    all-member _ xs apart x k (sym (ceiling-path p v x) ∙ ap (λ w. w .path) (sym f) ∙ q)
 
 -- what is offered
 
-under-was : (c : ModuleVersion) (vs : List Bytes) (x : ModuleVersion) → x ∈ under c vs → x .path ≡ c .path
-under-was c [] x h = absurd h
-under-was c (v ∷ vs) x h =
-    ⊎-elim (under-was c vs x) (go (isLe (version-order v (c .version)))) (member-either (under c vs) (cond (isLe (version-order v (c .version))) (at (c .path) v ∷ []) []) x h)
+offer-was : (c : ModuleVersion) (vs : List Bytes) (x : ModuleVersion) → x ∈ offer c vs → x .path ≡ c .path
+offer-was c [] x h = absurd h
+offer-was c (v ∷ vs) x h =
+    ⊎-elim (offer-was c vs x) (go (isLe (version-order v (c .version)))) (member-either (offer c vs) (cond (isLe (version-order v (c .version))) (at (c .path) v ∷ []) []) x h)
   where
     go : (b : Bool) → x ∈ cond b (at (c .path) v ∷ []) [] → x .path ≡ c .path
     go true (inl e) = ap (λ w. w .path) e
     go true (inr z) = absurd z
     go false z = absurd z
 
-under-holds : (c : ModuleVersion) (vs : List Bytes) (v : Bytes) → v ∈ vs → Upto v (c .version) → at (c .path) v ∈ under c vs
-under-holds c [] v h u = absurd h
-under-holds c (w ∷ vs) v (inl e) u =
-    member-right (under c vs) (cond (isLe (version-order w (c .version))) (at (c .path) w ∷ []) []) (at (c .path) v)
+offer-holds : (c : ModuleVersion) (vs : List Bytes) (v : Bytes) → v ∈ vs → Upto v (c .version) → at (c .path) v ∈ offer c vs
+offer-holds c [] v h u = absurd h
+offer-holds c (w ∷ vs) v (inl e) u =
+    member-right (offer c vs) (cond (isLe (version-order w (c .version))) (at (c .path) w ∷ []) []) (at (c .path) v)
     (rw (sym (ap (λ z. isLe (version-order z (c .version))) e) ∙ u) (inl (ap (at (c .path)) e)))
-under-holds c (w ∷ vs) v (inr h) u = member-left (under c vs) (cond (isLe (version-order w (c .version))) (at (c .path) w ∷ []) []) (at (c .path) v) (under-holds c vs v h u)
+offer-holds c (w ∷ vs) v (inr h) u = member-left (offer c vs) (cond (isLe (version-order w (c .version))) (at (c .path) w ∷ []) []) (at (c .path) v) (offer-holds c vs v h u)
 
-pub offered-was : (n : Meaning) (cs : List ModuleVersion) (x : ModuleVersion) → x ∈ offered n cs → Old cs x
-offered-was n [] x h = absurd h
-offered-was n (c ∷ cs) x h =
+pub offers-was : (n : Meaning) (cs : List ModuleVersion) (x : ModuleVersion) → x ∈ offers n cs → On-old-path cs x
+offers-was n [] x h = absurd h
+offers-was n (c ∷ cs) x h =
     ⊎-elim
-    (λ k. (c, inl refl, sym (under-was c (versions-in (n .listing (c .path))) x k)))
-    (λ k. let (d, j, p) = offered-was n cs x k in (d, inr j, p))
-    (member-either (under c (versions-in (n .listing (c .path)))) (offered n cs) x h)
+    (λ k. (c, inl refl, sym (offer-was c (found-in (n .listing (c .path))) x k)))
+    (λ k. let (d, j, p) = offers-was n cs x k in (d, inr j, p))
+    (member-either (offer c (found-in (n .listing (c .path)))) (offers n cs) x h)
 
-pub offered-holds : (n : Meaning) (cs : List ModuleVersion) (c : ModuleVersion) → c ∈ cs → (vs : List Bytes) → n .listing (c .path) ≡ given vs
-    → (v : Bytes) → v ∈ vs → Upto v (c .version) → at (c .path) v ∈ offered n cs
-offered-holds n [] c h vs l v k u = absurd h
-offered-holds n (d ∷ cs) c (inl same) vs l v k u =
-    member-left (under d (versions-in (n .listing (d .path)))) (offered n cs) (at (c .path) v)
-    (subst (λ w. at (c .path) v ∈ under w (versions-in (n .listing (w .path)))) same
-    (subst (λ ws. at (c .path) v ∈ under c ws) (sym (ap versions-in l)) (under-holds c vs v k u)))
-offered-holds n (d ∷ cs) c (inr h) vs l v k u =
-    member-right (under d (versions-in (n .listing (d .path)))) (offered n cs) (at (c .path) v) (offered-holds n cs c h vs l v k u)
+pub offers-holds : (n : Meaning) (cs : List ModuleVersion) (c : ModuleVersion) → c ∈ cs → (vs : List Bytes) → n .listing (c .path) ≡ found vs
+    → (v : Bytes) → v ∈ vs → Upto v (c .version) → at (c .path) v ∈ offers n cs
+offers-holds n [] c h vs l v k u = absurd h
+offers-holds n (d ∷ cs) c (inl same) vs l v k u =
+    member-left (offer d (found-in (n .listing (d .path)))) (offers n cs) (at (c .path) v)
+    (subst (λ w. at (c .path) v ∈ offer w (found-in (n .listing (w .path)))) same
+    (subst (λ ws. at (c .path) v ∈ offer c ws) (sym (ap found-in l)) (offer-holds c vs v k u)))
+offers-holds n (d ∷ cs) c (inr h) vs l v k u =
+    member-right (offer d (found-in (n .listing (d .path)))) (offers n cs) (at (c .path) v) (offers-holds n cs c h vs l v k u)
 
 -- every listing was given
 abbrev pub Listed : Meaning → List ModuleVersion → Type 0
-Listed n cs = (c : ModuleVersion) → c ∈ cs → (vs : List Bytes) × (n .listing (c .path) ≡ given vs)
+Listed n cs = (c : ModuleVersion) → c ∈ cs → (vs : List Bytes) × (n .listing (c .path) ≡ found vs)
 
 -- where the offers are done, so are all listings, and what is next started from all that is offered
 module _ (n : Meaning) (next : List Place → Walked) where
   abbrev Offers-done : List ModuleVersion → List Place → Type 0
-  Offers-done cs sheet = length sheet ≤ 256 → offers n next cs sheet .end ≡ done
-      → Listed n cs × (length (written 0 (offered n cs) sheet) ≤ 256) × (offers n next cs sheet ≡ next (written 0 (offered n cs) sheet))
+  Offers-done cs sheet = length sheet ≤ 256 → offers-written n next cs sheet .end ≡ done
+      → Listed n cs × (length (written 0 (offers n cs) sheet) ≤ 256) × (offers-written n next cs sheet ≡ next (written 0 (offers n cs) sheet))
 
   pub offers-done : (cs : List ModuleVersion) (sheet : List Place) → Offers-done cs sheet
   offers-done [] sheet l e = (λ c h. absurd h, l, refl)
   offers-done (c ∷ cs) sheet l e = by-answer (offers-done cs) (n .listing (c .path)) refl e
     where
       wrote : List Bytes → List Place
-      wrote vs = written 0 (under c vs) sheet
+      wrote vs = written 0 (offer c vs) sheet
 
-      by-room : ((w : List Place) → Offers-done cs w) → (vs : List Bytes) → n .listing (c .path) ≡ given vs → (b : Bool) → ltb 256 (length (wrote vs)) ≡ b
-          → cond b (ended full (wrote vs)) (offers n next cs (wrote vs)) .end ≡ done
-          → Listed n (c ∷ cs) × (length (written 0 (under c vs ++ offered n cs) sheet) ≤ 256)
-          × (cond b (ended full (wrote vs)) (offers n next cs (wrote vs)) ≡ next (written 0 (under c vs ++ offered n cs) sheet))
+      by-room : ((w : List Place) → Offers-done cs w) → (vs : List Bytes) → n .listing (c .path) ≡ found vs → (b : Bool) → ltb 256 (length (wrote vs)) ≡ b
+          → cond b (ended no-room (wrote vs)) (offers-written n next cs (wrote vs)) .end ≡ done
+          → Listed n (c ∷ cs) × (length (written 0 (offer c vs ++ offers n cs) sheet) ≤ 256)
+          × (cond b (ended no-room (wrote vs)) (offers-written n next cs (wrote vs)) ≡ next (written 0 (offer c vs ++ offers n cs) sheet))
       by-room on vs a true t q = let z : _≡_ {A = ℕ} 0 1 = cc in absurd (omega arith)
       by-room on vs a false t q =
           let (ls, short, same) = on (wrote vs) (ltb-false 256 (length (wrote vs)) t) q in
-          let at-once = written-append 0 (under c vs) (offered n cs) sheet in
+          let at-once = written-append 0 (offer c vs) (offers n cs) sheet in
           (λ d. ⊎-elim (λ e. (vs, ap (λ z. n .listing (z .path)) e ∙ a)) (ls d), rw at-once short, same ∙ ap next (sym at-once))
 
-      by-answer : ((w : List Place) → Offers-done cs w) → (a : Answer (List Bytes)) → n .listing (c .path) ≡ a → listed (offers n next cs) c sheet a .end ≡ done
-          → Listed n (c ∷ cs) × (length (written 0 (under c (versions-in a) ++ offered n cs) sheet) ≤ 256)
-          × (listed (offers n next cs) c sheet a ≡ next (written 0 (under c (versions-in a) ++ offered n cs) sheet))
-      by-answer on (refused f) a q = let z : _≡_ {A = ℕ} 0 1 = cc in absurd (omega arith)
-      by-answer on (given vs) a q = by-room on vs a (ltb 256 (length (wrote vs))) refl q
+      by-answer : ((w : List Place) → Offers-done cs w) → (a : Answer (List Bytes)) → n .listing (c .path) ≡ a → offer-written (offers-written n next cs) c sheet a .end ≡ done
+          → Listed n (c ∷ cs) × (length (written 0 (offer c (found-in a) ++ offers n cs) sheet) ≤ 256)
+          × (offer-written (offers-written n next cs) c sheet a ≡ next (written 0 (offer c (found-in a) ++ offers n cs) sheet))
+      by-answer on (fault f) a q = let z : _≡_ {A = ℕ} 0 1 = cc in absurd (omega arith)
+      by-answer on (found vs) a q = by-room on vs a (ltb 256 (length (wrote vs))) refl q
 
 -- remaining requirements
 
-module _ (m : Meaning) (s : State) where
-  pub remaining-apart : (x : ModuleVersion) → (x .path ≡ s .main → ⊥) → remaining m s x ≡ narrowed (off-main s) (layered m s .requirements x)
-  remaining-apart x n = rw (not-equal-test paths (x .path) (s .main) n)
+module _ (w : View) where
+  pub available-no-fault : (x : ModuleVersion) (xs : List ModuleVersion) (f : Fault) → w .layer .requirements x ≡ found xs → remaining w x ≡ fault f → ⊥
+  available-no-fault x xs f e q =
+      let g : remaining w x ≡ found (off-main (w .main) xs) = ap (narrowed (off-main (w .main))) e in
+      let z : _≡_ {A = ℕ} 0 1 = cc in
+      omega arith
 
-  pub available-not-refused : (x : ModuleVersion) (xs : List ModuleVersion) (f : Fault) → layered m s .requirements x ≡ given xs → remaining m s x ≡ refused f → ⊥
-  available-not-refused x xs f e q = go (same-path x (s .main)) q
+  -- what lower's walk was answered, where the row is neither above its ceiling nor missing
+  pub lower-given : (cs : List ModuleVersion) (x : ModuleVersion) (ys : List ModuleVersion) → (Above cs x → ⊥) → (Missing w x → ⊥) → lower-ask w cs x ≡ found ys → remaining w x ≡ found ys
+  lower-given cs x ys low there e = unbarred (is-above cs x) refl e
     where
-      go : (b : Bool) → narrowed (off-main s) (cond b (given (included (s .exclusions) (s .rows))) (layered m s .requirements x)) ≡ refused f → ⊥
-      go true r = let z : _≡_ {A = ℕ} 0 1 = cc in omega arith
-      go false r =
-          let g : narrowed (off-main s) (layered m s .requirements x) ≡ given (off-main s xs) = ap (narrowed (off-main s)) e in
-          let z : _≡_ {A = ℕ} 0 1 = cc in
-          omega arith
-
-  -- what lower's walk was answered, where the row is neither above its ceiling nor gone
-  pub lower-given : (cs : List ModuleVersion) (x : ModuleVersion) (ys : List ModuleVersion) → (Above cs x → ⊥) → (Gone m s x → ⊥) → lower-ask m s cs x ≡ given ys → remaining m s x ≡ given ys
-  lower-given cs x ys low there e = unbarred (above cs x) refl e
-    where
-      excuse : (f : Fault) → remaining m s x ≡ refused f → (b : Bool) → is-missing (f .cause) ≡ b → cond b (given []) (refused f) ≡ given ys → remaining m s x ≡ given ys
+      excuse : (f : Fault) → remaining w x ≡ fault f → (b : Bool) → is-missing (f .cause) ≡ b → cond b (found []) (fault f) ≡ found ys → remaining w x ≡ found ys
       excuse f r true t q = absurd (there (f, r, t))
       excuse f r false t q = let z : _≡_ {A = ℕ} 0 1 = cc in absurd (omega arith)
 
-      answer : (a : Answer (List ModuleVersion)) → remaining m s x ≡ a → excused a ≡ given ys → remaining m s x ≡ given ys
-      answer (given xs) r q = r ∙ q
-      answer (refused f) r q = excuse f r (is-missing (f .cause)) refl q
+      answer : (a : Answer (List ModuleVersion)) → remaining w x ≡ a → excused a ≡ found ys → remaining w x ≡ found ys
+      answer (found xs) r q = r ∙ q
+      answer (fault f) r q = excuse f r (is-missing (f .cause)) refl q
 
-      unbarred : (b : Bool) → above cs x ≡ b → cond b (given []) (excused (remaining m s x)) ≡ given ys → remaining m s x ≡ given ys
+      unbarred : (b : Bool) → is-above cs x ≡ b → cond b (found []) (excused (remaining w x)) ≡ found ys → remaining w x ≡ found ys
       unbarred true t q = absurd (low (above-from-test cs x t))
-      unbarred false t q = answer (remaining m s x) refl q
+      unbarred false t q = answer (remaining w x) refl q

@@ -1,6 +1,6 @@
 -- Versions stand by their precedence: the parts of a version tell its text. Assumes nothing.
 use mathlib.Core.Path.{_≡_, refl, sym, ap, ap₂, _∙_}
-use mathlib.Core.Bool.{Bool, true, false, cond, not, true≢false, _&&_, _||_}
+use mathlib.Core.Bool.{Bool, true, false, cond, not, true≢false, _&&_}
 use mathlib.Core.List.{List, [], _∷_, _++_, map}
 use mathlib.Core.Logic.{_⊎_, inl, inr, ⊎-elim}
 use Prim.Native.Nat.{ℕ, suc, _+_, _*_, _-_, _≤_, _<_}
@@ -19,14 +19,14 @@ use Rattle.rules.proofs.Order.{words, precedences, paths, versions, module-ver
 
 -- numbers
 
-digit-bounds : (b : ℕ) → digit b ≡ true → (48 ≤ b) × (b ≤ 57)
+pub digit-bounds : (b : ℕ) → digit b ≡ true → (48 ≤ b) × (b ≤ 57)
 digit-bounds b t = let (l, h) = and-parts (leb 48 b) (leb b 57) t in (leb-true 48 b l, leb-true b 57 h)
 
-every-head : {A : Type 0} (test : A → Bool) (x : A) (xs : List A) → every test (x ∷ xs) ≡ true → (test x ≡ true) × (every test xs ≡ true)
+pub every-head : {A : Type 0} (test : A → Bool) (x : A) (xs : List A) → every test (x ∷ xs) ≡ true → (test x ≡ true) × (every test xs ≡ true)
 every-head test x xs t = and-parts (test x) (every test xs) t
 
 -- of as many digits, the more in front the more
-value-less : (n k : ℕ) (ds es : Bytes) → every digit ds ≡ true → every digit es ≡ true → length ds ≡ length es → n < k → value n ds < value k es
+pub value-less : (n k : ℕ) (ds es : Bytes) → every digit ds ≡ true → every digit es ≡ true → length ds ≡ length es → n < k → value n ds < value k es
 value-less n k [] [] t u l h = h
 value-less n k [] (e ∷ es) t u l h = absurd (omega arith)
 value-less n k (d ∷ ds) [] t u l h = absurd (omega arith)
@@ -60,12 +60,12 @@ value-longer k ds (e ∷ es) t u l h =
     go below (inr (inl q)) = below (omega arith)
     go below (inr (inr q)) = absurd (omega arith)
 
-number-digits : (bs : Bytes) → is-number bs ≡ true → every digit bs ≡ true
+pub number-digits : (bs : Bytes) → is-number bs ≡ true → every digit bs ≡ true
 number-digits [] t = absurd (true≢false (sym t))
 number-digits (b ∷ []) t = rw t
 number-digits (b ∷ c ∷ bs) t = and-parts (not (eqb b 48)) (every digit (b ∷ c ∷ bs)) t .1
 
-shorter-less : (ds es : Bytes) → is-number ds ≡ true → is-number es ≡ true → length ds < length es → value 0 ds < value 0 es
+pub shorter-less : (ds es : Bytes) → is-number ds ≡ true → is-number es ≡ true → length ds < length es → value 0 ds < value 0 es
 shorter-less ds [] t u l = absurd (omega arith)
 shorter-less [] (e ∷ []) t u l = absurd (true≢false (sym t))
 shorter-less (d ∷ ds) (e ∷ []) t u l = absurd (omega arith)
@@ -86,7 +86,7 @@ numbers-same ds es t u e = go (cases-order (length ds) (length es))
 
 -- identifiers
 
-identifier-number : (p : Bytes) → is-identifier p ≡ true → every digit p ≡ true → is-number p ≡ true
+pub identifier-number : (p : Bytes) → is-identifier p ≡ true → every digit p ≡ true → is-number p ≡ true
 identifier-number p t d = ⊎-elim (λ h. h) (λ h. absurd (no-word p h d)) (or-cases (is-number p) (is-word p) t)
   where
     no-word : (p : Bytes) → is-word p ≡ true → every digit p ≡ true → ⊥
@@ -131,7 +131,7 @@ dotted-begun b (p ∷ []) = refl
 dotted-begun b (p ∷ q ∷ ps) = refl
 
 -- there is always one
-pieces-some : (bs : Bytes) → (p : Bytes) × (ps : List Bytes) × (pieces dot bs ≡ p ∷ ps)
+pub pieces-some : (bs : Bytes) → (p : Bytes) × (ps : List Bytes) × (pieces dot bs ≡ p ∷ ps)
 pieces-some [] = ([], [], refl)
 pieces-some (b ∷ bs) = go (eqb b dot) (pieces dot bs)
   where

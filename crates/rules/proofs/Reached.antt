@@ -1,103 +1,191 @@
 -- What is reached, and that a list's walk that is done has on its sheet just that. Assumes nothing.
-use mathlib.Core.Path.{_≡_, refl, ap}
-use mathlib.Core.Bool.{true, false, not, cond}
-use mathlib.Core.List.{List, [], _∷_}
+use mathlib.Core.Path.{_≡_, refl, sym, ap, _∙_, subst}
+use mathlib.Core.Bool.{true, false, not}
+use mathlib.Core.List.{List, [], _∷_, _++_}
 use mathlib.Core.Logic.{_⊎_, inl, inr, ⊎-elim}
-use Prim.Native.Nat.{ℕ}
+use Prim.Native.Nat.{ℕ, zero, suc, _≤_, _<_}
 use native.Mathlib.Omega.{arith}
-use Rattle.std.specs.shelf.Lists.{All}
+use lib.ListN.{length}
+use Rattle.std.specs.Finite.{nth}
+use Rattle.std.specs.declared.option.Option.the-variants.{Some}
 use Rattle.std.proofs.shelf.Tests.{not-true}
+use Rattle.rules.specs.Orders.{Bytes}
 use Rattle.rules.specs.Names.{ModuleVersion, same-path, has, _∈_, Distinct}
-use Rattle.rules.specs.Sources.{Answer, given, refused, Meaning, narrowed, included}
-use Rattle.rules.specs.Projects.{State, main-row, off-main, layered, remaining, Requires, Chain, start, onward, Reached}
-use Rattle.rules.specs.Walks.{module-versions, done, list-walk, first-sheet}
-use Rattle.rules.proofs.Order.{apart-from-test, test-from-equal, not-equal-test, paths}
-use Rattle.rules.proofs.Members.{kept-member, kept-was, member-either}
-use Rattle.rules.proofs.Walks.{Run, run-of, run-keeps, run-grows, run-answers, run-distinct, row, module-versions-pushed, member-at, place-of, Answered}
+use Rattle.rules.specs.Sources.{Answer, found, fault, Meaning, narrowed, included}
+use Rattle.rules.specs.Projects.{State, main-row, off-main, main-requirements, View, view, remaining, Requires, Chain, start, first, onward, Reached}
+use Rattle.rules.specs.Walks.{Place, module-versions, done, list-walk, first-sheet, trail, trail-at}
+use Rattle.rules.proofs.Order.{apart-from-test, not-equal-test, paths}
+use Rattle.rules.proofs.Members.{kept-member, kept-was}
+use Rattle.rules.proofs.Walks.{Begun, begun-of, begun-keeps, begun-grows, begun-holds, begun-answers, begun-distinct, placed, nth-left, nth-pushed, nth-within, place-of, Answered}
 
-pub off-main-apart : (s : State) (x : ModuleVersion) → not (same-path x (s .main)) ≡ true → x .path ≡ s .main → ⊥
-off-main-apart s x t = apart-from-test paths (x .path) (s .main) (not-true _ t)
+pub off-main-apart : (main : Bytes) (x : ModuleVersion) → not (same-path x main) ≡ true → x .path ≡ main → ⊥
+off-main-apart main x t = apart-from-test paths (x .path) main (not-true _ t)
+
+-- no remaining requirement is on the main path
+pub required-apart : (w : View) (x y : ModuleVersion) → Requires w x y → y .path ≡ w .main → ⊥
+required-apart w x y (ys, e, h) = go (w .layer .requirements x) e
+  where
+    go : (a : Answer (List ModuleVersion)) → narrowed (off-main (w .main)) a ≡ found ys → y .path ≡ w .main → ⊥
+    go (fault f) q = let z : _≡_ {A = ℕ} 0 1 = cc in absurd (omega arith)
+    go (found zs) q =
+        let eq : ys ≡ off-main (w .main) zs = cc in
+        off-main-apart (w .main) y (kept-was (λ v. not (same-path v (w .main))) zs y (rw eq at h) .1)
+
+-- the main module's requirements
+
+module _ (s : State) where
+  pub main-required : (y : ModuleVersion) → y ∈ main-requirements s → (y ∈ s .rows) × (y .path ≡ s .main → ⊥)
+  main-required y h =
+      let (k, t) = kept-was (λ v. not (same-path v (s .main))) (included (s .exclusions) (s .rows)) y h in
+      (kept-was (λ v. not (has (s .exclusions) v)) (s .rows) y k .0, off-main-apart (s .main) y t)
+
+  pub required-by-main : (y : ModuleVersion) → y ∈ s .rows → has (s .exclusions) y ≡ false → (y .path ≡ s .main → ⊥) → y ∈ main-requirements s
+  required-by-main y h free apart =
+      kept-member (λ v. not (same-path v (s .main))) (included (s .exclusions) (s .rows)) y
+      (kept-member (λ v. not (has (s .exclusions) v)) (s .rows) y h (ap not free)) (ap not (not-equal-test paths (y .path) (s .main) apart))
 
 module _ (m : Meaning) (s : State) where
-  -- the main module always has its list, the rows that are not excluded
-  pub main-given : (x : ModuleVersion) → x .path ≡ s .main → remaining m s x ≡ given (off-main s (included (s .exclusions) (s .rows)))
-  main-given x p = rw (test-from-equal paths (x .path) (s .main) p)
+  -- chains
 
-  pub main-requires : (x y : ModuleVersion) → x .path ≡ s .main → Requires m s x y → y ∈ s .rows
-  main-requires x y p (ys, e, h) =
-      let same : ys ≡ off-main s (included (s .exclusions) (s .rows)) = cc (main-given x p) in
-      let kept = kept-was (λ w. not (same-path w (s .main))) (included (s .exclusions) (s .rows)) y (rw same at h) .0 in
-      kept-was (λ w. not (has (s .exclusions) w)) (s .rows) y kept .0
+  -- the last member of a chain is the main row, or off the main path
+  abbrev pub Ends : List ModuleVersion → Type 0
+  Ends [] = ⊥
+  Ends (x ∷ []) = x ≡ main-row s
+  Ends (x ∷ z ∷ xs) = x .path ≡ s .main → ⊥
 
-  pub required-by-main : (y : ModuleVersion) → y ∈ s .rows → has (s .exclusions) y ≡ false → (y .path ≡ s .main → ⊥) → Requires m s (main-row s) y
-  required-by-main y h free apart = (
-    off-main s (included (s .exclusions) (s .rows)),
-    main-given (main-row s) refl,
-    kept-member (λ w. not (same-path w (s .main))) (included (s .exclusions) (s .rows)) y
-        (kept-member (λ w. not (has (s .exclusions) w)) (s .rows) y h (ap not free)) (ap not (not-equal-test paths (y .path) (s .main) apart)),
-  )
+  pub chain-ends : {xs : List ModuleVersion} → Chain m s xs → Ends xs
+  chain-ends start = refl
+  chain-ends (first {x} h) = main-required s x h .1
+  chain-ends (onward {x} {y} c q) = required-apart (view m s) x y q
 
-  -- no remaining requirement is on the main path
-  pub required-apart : (x y : ModuleVersion) → Requires m s x y → y .path ≡ s .main → ⊥
-  required-apart x y (ys, e, h) = go (cond (same-path x (s .main)) (given (included (s .exclusions) (s .rows))) (layered m s .requirements x)) e
-    where
-      go : (a : Answer (List ModuleVersion)) → narrowed (off-main s) a ≡ given ys → y .path ≡ s .main → ⊥
-      go (refused f) q = let z : _≡_ {A = ℕ} 0 1 = cc in absurd (omega arith)
-      go (given zs) q =
-          let eq : ys ≡ off-main s zs = cc in
-          off-main-apart s y (kept-was (λ w. not (same-path w (s .main))) zs y (rw eq at h) .1)
+  abbrev Last : (ModuleVersion → Type 0) → List ModuleVersion → Type 0
+  Last P [] = ⊥
+  Last P (x ∷ xs) = P x
 
-  -- what holds of the main row and goes on to each remaining requirement holds of all that is reached
-  pub chain-all : (P : ModuleVersion → Type 0) → P (main-row s) → ((x y : ModuleVersion) → P x → Requires m s x y → P y) → {xs : List ModuleVersion} → Chain m s xs → All P xs
-  chain-all P p step start = (p, tt)
-  chain-all P p step (onward {x} {y} c q) = let h = chain-all P p step c in (step x y (h .0) q, h)
+  -- What holds of the main row and of what it requires, and goes on to each remaining requirement of another, holds of all that is reached.
+  module _ (P : ModuleVersion → Type 0) (main : P (main-row s)) (rows : (y : ModuleVersion) → y ∈ main-requirements s → P y)
+      (step : (x y : ModuleVersion) → (x .path ≡ s .main → ⊥) → P x → Requires (view m s) x y → P y) where
+    chain-last : {xs : List ModuleVersion} → Chain m s xs → Last P xs
+    chain-last start = main
+    chain-last (first {x} h) = rows x h
+    chain-last (onward {x} {y} c q) = step x y (chain-ends c) (chain-last c) q
 
-  pub reached-all : (P : ModuleVersion → Type 0) → P (main-row s) → ((x y : ModuleVersion) → P x → Requires m s x y → P y) → (x : ModuleVersion) → Reached m s x → P x
-  reached-all P p step x (xs, c) = chain-all P p step c .0
+    pub reached-all : (x : ModuleVersion) → Reached m s x → P x
+    reached-all x (xs, c) = chain-last c
 
   pub reached-main : Reached m s (main-row s)
   reached-main = ([], start)
 
-  pub reached-on : (x y : ModuleVersion) → Reached m s x → Requires m s x y → Reached m s y
-  reached-on x y (xs, c) q = (x ∷ xs, onward c q)
+  pub reached-first : (x : ModuleVersion) → x ∈ main-requirements s → Reached m s x
+  reached-first x h = (main-row s ∷ [], first h)
 
   -- on the main path only the main row is reached
   pub main-or-apart : (x : ModuleVersion) → Reached m s x → (x ≡ main-row s) ⊎ (x .path ≡ s .main → ⊥)
-  main-or-apart = reached-all (λ x. (x ≡ main-row s) ⊎ (x .path ≡ s .main → ⊥)) (inl refl) (λ x y h q. inr (required-apart x y q))
+  main-or-apart = reached-all (λ x. (x ≡ main-row s) ⊎ (x .path ≡ s .main → ⊥)) (inl refl) (λ y h. inr (main-required s y h .1)) (λ x y off h q. inr (required-apart (view m s) x y q))
 
   -- the walk
 
-  pub list-run : Run (remaining m s) 0 (first-sheet s) (list-walk m s .sheet) (list-walk m s .end)
+  abbrev pub List-begun : List Place → Type 0
+  List-begun sheet = Begun (remaining (view m s)) (main-requirements s) (first-sheet s) sheet (list-walk m s .end)
+
+  pub list-begun : List-begun (list-walk m s .sheet)
   unfolding list-walk
-  list-run = run-of (remaining m s) 256 0 (first-sheet s) refl (omega arith)
+  list-begun = begun-of (remaining (view m s)) (main-requirements s) (first-sheet s)
 
   pub sheet-distinct : Distinct (module-versions (list-walk m s .sheet))
-  sheet-distinct = run-distinct (remaining m s) list-run (λ h. h, tt)
+  sheet-distinct = begun-distinct (remaining (view m s)) (main-requirements s) (first-sheet s) list-begun (λ h. h, tt)
+
+  pub main-on-sheet : main-row s ∈ module-versions (list-walk m s .sheet)
+  main-on-sheet = begun-grows (remaining (view m s)) (main-requirements s) (first-sheet s) list-begun (main-row s) (inl refl)
+
+  -- the from numbers: a row of the main module came from place 0, and another from a place before its own that requires it
+
+  abbrev Came : List Place → ℕ → Place → Type 0
+  Came sheet i r = ((r .from ≡ 0) × (r .row ∈ main-requirements s))
+      ⊎ ((j : ℕ) × (q : Place) × (r .from ≡ suc j) × (j < i) × (nth sheet (suc j) ≡ Some q) × Requires (view m s) (q .row) (r .row))
+
+  abbrev Traced : List Place → Type 0
+  Traced sheet = (nth sheet 0 ≡ Some (placed (main-row s) 0)) × ((i : ℕ) (r : Place) → nth sheet (suc i) ≡ Some r → Came sheet i r)
+
+  -- it stays so where a place is appended that came so
+  traced-on : (sheet : List Place) (x : ModuleVersion) (k : ℕ) → Traced sheet → ((i : ℕ) → suc i ≡ length sheet → Came (sheet ++ placed x k ∷ []) i (placed x k)) → Traced (sheet ++ placed x k ∷ [])
+  traced-on sheet x k (main, old) new = (
+    nth-left sheet (placed x k ∷ []) 0 (placed (main-row s) 0) main,
+    λ i r e.
+        ⊎-elim
+        (λ g. ⊎-elim (λ h. inl h) (λ (j, q, f, l, n, h). inr (j, q, f, l, nth-left sheet (placed x k ∷ []) (suc j) q n, h)) (old i r g))
+        (λ (g, same). subst (Came (sheet ++ placed x k ∷ []) i) same (new i g))
+        (nth-pushed sheet (placed x k) (suc i) r e),
+  )
+
+  traced : Traced (list-walk m s .sheet)
+  traced =
+      begun-keeps (remaining (view m s)) (main-requirements s) (first-sheet s) Traced
+      (λ sheet x h new t. traced-on sheet x 0 t (λ i g. inl (refl, h)))
+      (λ k sheet r ys x l n a h new t. traced-on sheet x k t (λ i g. inr (from-place k sheet r ys x l n a h i g)))
+      list-begun
+      (refl, λ i r e. let z : _≡_ {A = ℕ} 0 1 = cc in absurd (omega arith))
+    where
+      from-place : (k : ℕ) (sheet : List Place) (r : Place) (ys : List ModuleVersion) (x : ModuleVersion) → 1 ≤ k → nth sheet k ≡ Some r → remaining (view m s) (r .row) ≡ found ys → x ∈ ys
+          → (i : ℕ) → suc i ≡ length sheet
+          → (j : ℕ) × (q : Place) × (k ≡ suc j) × (j < i) × (nth (sheet ++ placed x k ∷ []) (suc j) ≡ Some q) × Requires (view m s) (q .row) x
+      from-place zero sheet r ys x l n a h i g = absurd (omega arith)
+      from-place (suc j) sheet r ys x l n a h i g =
+          (j, r, refl, omega (arith, nth-within sheet (suc j) r n), nth-left sheet (placed x (suc j) ∷ []) (suc j) r n, (ys, a, h))
+
+  -- on any slice that has the sheet's places the from numbers lead back along a chain
+  module _ (slice : List Place) (on : (i : ℕ) (r : Place) → nth (list-walk m s .sheet) i ≡ Some r → nth slice i ≡ Some r) where
+    trail-main : (left : ℕ) → trail (suc left) slice 0 ≡ main-row s ∷ []
+    unfolding trail
+    trail-main left = ap (trail-at (trail left slice) 0) (on 0 (placed (main-row s) 0) (traced .0))
+
+    pub trail-leads : (left place : ℕ) (r : Place) → suc place < left → nth (list-walk m s .sheet) (suc place) ≡ Some r
+        → (z : ModuleVersion) × (xs : List ModuleVersion) × (trail left slice (suc place) ≡ r .row ∷ z ∷ xs) × Chain m s (r .row ∷ z ∷ xs)
+    unfolding trail
+    trail-leads zero place r h n = absurd (omega arith)
+    trail-leads (suc zero) place r h n = absurd (omega arith)
+    trail-leads (suc (suc left)) place r h n = go (λ j q. trail-leads (suc left) j q) (traced .1 place r n)
+      where
+        at-place : trail (suc (suc left)) slice (suc place) ≡ r .row ∷ trail (suc left) slice (r .from)
+        at-place = ap (trail-at (trail (suc left) slice) (suc place)) (on (suc place) r n)
+
+        go : ((j : ℕ) (q : Place) → suc j < suc left → nth (list-walk m s .sheet) (suc j) ≡ Some q
+            → (z : ModuleVersion) × (xs : List ModuleVersion) × (trail (suc left) slice (suc j) ≡ q .row ∷ z ∷ xs) × Chain m s (q .row ∷ z ∷ xs))
+            → Came (list-walk m s .sheet) place r
+            → (z : ModuleVersion) × (xs : List ModuleVersion) × (trail (suc (suc left)) slice (suc place) ≡ r .row ∷ z ∷ xs) × Chain m s (r .row ∷ z ∷ xs)
+        go back (inl (f, k)) = (main-row s, [], at-place ∙ ap (λ i. r .row ∷ trail (suc left) slice i) f ∙ ap (λ xs. r .row ∷ xs) (trail-main left), first k)
+        go back (inr (j, q, f, l, nq, k)) =
+            let (z, xs, t, c) = back j q (omega arith) nq in
+            (q .row, z ∷ xs, at-place ∙ ap (λ i. r .row ∷ trail (suc left) slice i) f ∙ ap (λ ys. r .row ∷ ys) t, onward c k)
+
+  -- a place after the main one has its chain
+  pub place-reached : (i : ℕ) (r : Place) → nth (list-walk m s .sheet) (suc i) ≡ Some r → (z : ModuleVersion) × (xs : List ModuleVersion) × Chain m s (r .row ∷ z ∷ xs)
+  place-reached i r n = let (z, xs, t, c) = trail-leads (list-walk m s .sheet) (λ j q e. e) (suc (suc i)) i r (omega arith) n in (z, xs, c)
 
   pub sheet-reached : (x : ModuleVersion) → x ∈ module-versions (list-walk m s .sheet) → Reached m s x
-  sheet-reached =
-      run-keeps (remaining m s) (λ sheet. (x : ModuleVersion) → x ∈ module-versions sheet → Reached m s x)
-      (λ k sheet r ys y n a h new old x i.
-      ⊎-elim (old x)
-      (⊎-elim (λ e. rw e (reached-on (r .of) y (old (r .of) (member-at sheet k r n)) (ys, a, h))) (λ z. absurd z))
-      (member-either (module-versions sheet) (y ∷ []) x (rw module-versions-pushed at i)))
-      list-run
-      (λ x. ⊎-elim (λ e. rw e reached-main) (λ z. absurd z))
+  sheet-reached x h = go (place-of (list-walk m s .sheet) x h)
+    where
+      go : (i : ℕ) × (r : Place) × (nth (list-walk m s .sheet) i ≡ Some r) × (x ≡ r .row) → Reached m s x
+      go (zero, r, n, e) = let same : placed (main-row s) 0 ≡ r = cc (traced .0) in subst (Reached m s) (ap (λ v. v .row) same ∙ sym e) reached-main
+      go (suc i, r, n, e) = let (z, xs, c) = place-reached i r n in subst (Reached m s) (sym e) (z ∷ xs, c)
 
   module _ (ok : list-walk m s .end ≡ done) where
-    sheet-answered : (x : ModuleVersion) → x ∈ module-versions (list-walk m s .sheet) → Answered (remaining m s) x (list-walk m s .sheet)
-    sheet-answered x h =
-        let (i, r, n, e) = place-of (list-walk m s .sheet) x h in
-        rw e (run-answers (remaining m s) 0 list-run ok (λ j q g l p. absurd (omega arith)) i r (omega arith) n)
+    sheet-answered : (x : ModuleVersion) → x ∈ module-versions (list-walk m s .sheet) → (x .path ≡ s .main → ⊥) → Answered (remaining (view m s)) x (list-walk m s .sheet)
+    sheet-answered x h off = go (place-of (list-walk m s .sheet) x h)
+      where
+        go : (i : ℕ) × (r : Place) × (nth (list-walk m s .sheet) i ≡ Some r) × (x ≡ r .row) → Answered (remaining (view m s)) x (list-walk m s .sheet)
+        go (zero, r, n, e) = let same : placed (main-row s) 0 ≡ r = cc (traced .0) in absurd (off (ap (λ v. v .path) (e ∙ ap (λ v. v .row) (sym same))))
+        go (suc i, r, n, e) = rw e (begun-answers (remaining (view m s)) (main-requirements s) (first-sheet s) list-begun ok (suc i) r (omega arith) n)
 
     pub reached-sheet : (x : ModuleVersion) → Reached m s x → x ∈ module-versions (list-walk m s .sheet)
     reached-sheet =
-        reached-all (λ x. x ∈ module-versions (list-walk m s .sheet)) (run-grows (remaining m s) list-run (main-row s) (inl refl))
-        (λ x y h q.
-        let (xs, a, on) = sheet-answered x h in
+        reached-all (λ x. x ∈ module-versions (list-walk m s .sheet)) main-on-sheet (begun-holds (remaining (view m s)) (main-requirements s) (first-sheet s) list-begun)
+        (λ x y off h q.
+        let (xs, a, on) = sheet-answered x h off in
         let (ys, b, k) = q in
         let same : ys ≡ xs = cc in
         on y (rw same at k))
 
-    pub reached-given : (x : ModuleVersion) → Reached m s x → (xs : List ModuleVersion) × (remaining m s x ≡ given xs)
-    reached-given x r = let (xs, a, on) = sheet-answered x (reached-sheet x r) in (xs, a)
+    -- each but the main module has its list
+    pub reached-found : (x : ModuleVersion) → Reached m s x → (x .path ≡ s .main → ⊥) → (xs : List ModuleVersion) × (remaining (view m s) x ≡ found xs)
+    reached-found x r off = let (xs, a, on) = sheet-answered x (reached-sheet x r) off in (xs, a)

@@ -15,23 +15,24 @@ use Rattle.std.proofs.shelf.Tests.{and-parts, cases-bool}
 use Rattle.rules.specs.Orders.{Bytes}
 use Rattle.rules.specs.Versions.{version-order}
 use Rattle.rules.specs.Names.{ModuleVersion, Below, same-path, has, _∈_}
+use Rattle.rules.specs.Rows.{row-of, with-row, with-exclusion}
 use Rattle.rules.specs.Causes.{Cause, too-many-module-versions, Fault, Refusal, nothing-to-change, table-full, slice-too-short}
 use Rattle.rules.specs.Sources.{Meaning, Lawful}
-use Rattle.rules.specs.Projects.{State, Reached, Few}
-use Rattle.rules.specs.Walks.{Place, module-versions, End, done, stopped, full, list-walk}
-use Rattle.rules.specs.Lists.{entered, list-of}
+use Rattle.rules.specs.Projects.{State, view, Reached, Few, with-rows, with-exclusions}
+use Rattle.rules.specs.Walks.{Place, module-versions, End, done, stopped, no-room, list-walk}
+use Rattle.rules.specs.Lists.{list-of}
 use Rattle.rules.specs.Faults.{Stopped, Broken, Shown-on}
-use Rattle.rules.specs.Lowers.{behind, can-lower, with-rows, lower-walk, kept-rows, old-list, ceilings-at}
-use Rattle.rules.specs.Slices.{blank, blank-place, Lent, wide, filled, holding}
-use Rattle.rules.specs.Calls.{manifest, unread, Call, load, raise, drop, exclude, lower, list, counted, refused-for, Outcome, plainly, brought, refuses, unless, put, with-exclusions, row-of, raised, dropped, excluded, replied, if-done, if-wide, listing, nothing-lower, lowering, lowers, does}
-use Rattle.rules.specs.Runs.{after, fresh, Gives, Given, Refused, fault-of, Least, Deserved, Overfull, Lowered, Runs-right}
+use Rattle.rules.specs.Lowers.{after-main, can-lower, lower-walk, kept-rows, old-list, ceilings-at}
+use Rattle.rules.specs.Slices.{blank, blank-place, Lent, long-enough, filled, holding}
+use Rattle.rules.specs.Calls.{manifest, unread, Call, load, raise, drop, exclude, lower, list, counted, refused, Outcome, refusal-for, refusal-at, refuses, unless, raised, dropped, excluded, replied, if-done, if-long-enough, lists, lowers-nothing, lowers-by, lowers, does}
+use Rattle.rules.specs.Runs.{after, fresh, Gives, Counted, Refused, fault-of, Least, Deserved, Overfull, Lowered, Runs-right}
 use Rattle.rules.proofs.Order.{equal-from-test, before-from-less, paths, versions}
 use Rattle.rules.proofs.Lists.{list-right-at}
 use Rattle.rules.proofs.Faults.{refusal-right-at, shown-on, many}
-use Rattle.rules.proofs.Reached.{sheet-distinct, sheet-reached, reached-sheet}
+use Rattle.rules.proofs.Reached.{main-or-apart, sheet-distinct, sheet-reached, reached-sheet}
 use Rattle.rules.proofs.Marks.{some-there}
 use Rattle.rules.proofs.Lowers.{lower-right}
-use Rattle.rules.proofs.Slices.{filled-length, short-256, wide-sheet, wide-list, sheet-room, list-room, on-slice, full-256, first-was, first-distinct}
+use Rattle.rules.proofs.Slices.{filled-length, short-256, long-sheet, long-list, sheet-room, list-room, on-slice, no-room-256, first-was, first-distinct}
 
 -- a refused call leaves the state as it was
 
@@ -40,8 +41,8 @@ unless-keeps true c s new r = refl
 unless-keeps false c s new (r, e) = let z : _≡_ {A = ℕ} 0 1 = cc in absurd (omega arith)
 
 raised-keeps : (s : State) (x : ModuleVersion) (o : Option ModuleVersion) → Refused (raised s x o) → raised s x o .state ≡ s
-raised-keeps s x (Some y) r = unless-keeps (isLe (version-order (x .version) (y .version))) nothing-to-change s (with-rows s (entered x (s .rows))) r
-raised-keeps s x None r = unless-keeps (leb 256 (length (s .rows))) table-full s (with-rows s (entered x (s .rows))) r
+raised-keeps s x (Some y) r = unless-keeps (isLe (version-order (x .version) (y .version))) nothing-to-change s (with-rows s (with-row x (s .rows))) r
+raised-keeps s x None r = unless-keeps (leb 256 (length (s .rows))) table-full s (with-rows s (with-row x (s .rows))) r
 
 dropped-keeps : (s : State) (p : Bytes) (o : Option ModuleVersion) → Refused (dropped s p o) → dropped s p o .state ≡ s
 dropped-keeps s p (Some y) (r, e) = let z : _≡_ {A = ℕ} 0 1 = cc in absurd (omega arith)
@@ -51,45 +52,45 @@ excluded-keeps : (s : State) (x : ModuleVersion) → Refused (excluded s x) → 
 excluded-keeps s x = go (has (s .exclusions) x)
   where
     more : Outcome
-    more = unless (leb 32 (length (s .exclusions))) table-full s (with-exclusions s (put x (s .exclusions)))
+    more = unless (leb 32 (length (s .exclusions))) table-full s (with-exclusions s (with-exclusion x (s .exclusions)))
 
-    go : (b : Bool) → Refused (cond b (refuses s (plainly nothing-to-change)) more) → cond b (refuses s (plainly nothing-to-change)) more .state ≡ s
+    go : (b : Bool) → Refused (cond b (refuses s (refusal-for nothing-to-change)) more) → cond b (refuses s (refusal-for nothing-to-change)) more .state ≡ s
     go true r = refl
-    go false r = unless-keeps (leb 32 (length (s .exclusions))) table-full s (with-exclusions s (put x (s .exclusions))) r
+    go false r = unless-keeps (leb 32 (length (s .exclusions))) table-full s (with-exclusions s (with-exclusion x (s .exclusions))) r
 
-wide-keeps : (n : Lent) (s : State) (o : Outcome) → (Refused o → o .state ≡ s) → Refused (if-wide n s o) → if-wide n s o .state ≡ s
-wide-keeps n s o h = go (wide n)
+long-keeps : (n : Lent) (s : State) (o : Outcome) → (Refused o → o .state ≡ s) → Refused (if-long-enough n s o) → if-long-enough n s o .state ≡ s
+long-keeps n s o h = go (long-enough n)
   where
     short : Outcome
-    short = record { reply = refused-for (plainly slice-too-short); state = s; slices = holding n [] [] }
+    short = record { reply = refused (refusal-for slice-too-short); state = s; slices = holding n [] [] }
 
     go : (b : Bool) → Refused (cond b o short) → cond b o short .state ≡ s
     go true r = h r
     go false r = refl
 
 module _ (m : Meaning) (s : State) where
-  lowering-keeps : (n : Lent) (cs : List ModuleVersion) → Refused (lowering m s n cs) → lowering m s n cs .state ≡ s
+  lowering-keeps : (n : Lent) (cs : List ModuleVersion) → Refused (lowers-by m s n cs) → lowers-by m s n cs .state ≡ s
   lowering-keeps n cs (r, e) = go (lower-walk m s cs .end) e
     where
-      go : (w : End) → replied w (length (lower-walk m s cs .sheet)) (length (old-list m s)) ≡ refused-for r → if-done w (with-rows s (kept-rows m s cs)) s ≡ s
+      go : (w : End) → replied w (length (lower-walk m s cs .sheet)) (length (old-list m s)) ≡ refused r → if-done w (with-rows s (kept-rows (view m s) cs)) s ≡ s
       go done q = let z : _≡_ {A = ℕ} 0 1 = cc in absurd (omega arith)
       go (stopped k f) q = refl
-      go full q = refl
+      go no-room q = refl
 
   lowers-keeps : (p v : Bytes) (n : Lent) → Refused (lowers m s p v n) → lowers m s p v n .state ≡ s
   lowers-keeps p v n = by-list (list-walk m s .end)
     where
-      by-test : (b : Bool) → Refused (cond b (lowering m s n (ceilings-at m s p v)) (nothing-lower m s n)) → cond b (lowering m s n (ceilings-at m s p v)) (nothing-lower m s n) .state ≡ s
+      by-test : (b : Bool) → Refused (cond b (lowers-by m s n (ceilings-at m s p v)) (lowers-nothing m s n)) → cond b (lowers-by m s n (ceilings-at m s p v)) (lowers-nothing m s n) .state ≡ s
       by-test true r = lowering-keeps n (ceilings-at m s p v) r
       by-test false r = refl
 
       chosen : Outcome
-      chosen = cond (can-lower p v (old-list m s)) (lowering m s n (ceilings-at m s p v)) (nothing-lower m s n)
+      chosen = cond (can-lower p v (old-list m s)) (lowers-by m s n (ceilings-at m s p v)) (lowers-nothing m s n)
 
-      by-list : (w : End) → Refused (if-done w chosen (listing m s n)) → if-done w chosen (listing m s n) .state ≡ s
+      by-list : (w : End) → Refused (if-done w chosen (lists m s n)) → if-done w chosen (lists m s n) .state ≡ s
       by-list done r = by-test (can-lower p v (old-list m s)) r
       by-list (stopped k f) r = refl
-      by-list full r = refl
+      by-list no-room r = refl
 
   refuses-right : (c : Call) → Refused (does m s c) → does m s c .state ≡ s
   unfolding does
@@ -98,42 +99,42 @@ module _ (m : Meaning) (s : State) where
   refuses-right (raise x) r = raised-keeps s x (row-of (x .path) (s .rows)) r
   refuses-right (drop p) r = dropped-keeps s p (row-of p (s .rows)) r
   refuses-right (exclude x) r = excluded-keeps s x r
-  refuses-right (lower p v n) r = wide-keeps n s (lowers m s p v n) (lowers-keeps p v n) r
-  refuses-right (list n) r = wide-keeps n s (listing m s n) (λ q. refl) r
+  refuses-right (lower p v n) r = long-keeps n s (lowers m s p v n) (lowers-keeps p v n) r
+  refuses-right (list n) r = long-keeps n s (lists m s n) (λ q. refl) r
 
   -- a list
 
-  wide-list-is : (n : Lent) → wide n ≡ true → does m s (list n) ≡ listing m s n
+  long-list-is : (n : Lent) → long-enough n ≡ true → does m s (list n) ≡ lists m s n
   unfolding does
-  wide-list-is n w = rw w
+  long-list-is n w = rw w
 
-  pub list-gives : (n : Lent) → wide n ≡ true → list-walk m s .end ≡ done → Gives (does m s (list n)) n (old-list m s)
+  pub list-gives : (n : Lent) → long-enough n ≡ true → list-walk m s .end ≡ done → Gives (does m s (list n)) n (old-list m s)
   list-gives n w ok =
-      subst (λ o. Gives o n (old-list m s)) (sym (wide-list-is n w))
+      subst (λ o. Gives o n (old-list m s)) (sym (long-list-is n w))
       ((length (list-walk m s .sheet), ap (λ e. replied e (length (list-walk m s .sheet)) (length (old-list m s))) ok), ap (λ e. filled blank (n .list) (if-done e (old-list m s) [])) ok)
 
-  wide-given : (n : Lent) (o : Outcome) → Given (if-wide n s o) → (wide n ≡ true) × Given o
-  wide-given n o = go (wide n)
+  long-counted : (n : Lent) (o : Outcome) → Counted (if-long-enough n s o) → (long-enough n ≡ true) × Counted o
+  long-counted n o = go (long-enough n)
     where
       short : Outcome
-      short = record { reply = refused-for (plainly slice-too-short); state = s; slices = holding n [] [] }
+      short = record { reply = refused (refusal-for slice-too-short); state = s; slices = holding n [] [] }
 
-      go : (b : Bool) → Given (cond b o short) → (b ≡ true) × Given o
+      go : (b : Bool) → Counted (cond b o short) → (b ≡ true) × Counted o
       go true g = (refl, g)
       go false (k, c, e) = let z : _≡_ {A = ℕ} 0 1 = cc in absurd (omega arith)
 
   replied-done : (e : End) (a b k c : ℕ) → replied e a b ≡ counted k c → e ≡ done
   replied-done done a b k c q = refl
   replied-done (stopped i f) a b k c q = let z : _≡_ {A = ℕ} 0 1 = cc in absurd (omega arith)
-  replied-done full a b k c q = let z : _≡_ {A = ℕ} 0 1 = cc in absurd (omega arith)
+  replied-done no-room a b k c q = let z : _≡_ {A = ℕ} 0 1 = cc in absurd (omega arith)
 
-  list-given : (n : Lent) → Given (does m s (list n)) → (wide n ≡ true) × (list-walk m s .end ≡ done)
+  list-given : (n : Lent) → Counted (does m s (list n)) → (long-enough n ≡ true) × (list-walk m s .end ≡ done)
   unfolding does
   list-given n g =
-      let (w, (k, c, e)) = wide-given n (listing m s n) g in
+      let (w, (k, c, e)) = long-counted n (lists m s n) g in
       (w, replied-done (list-walk m s .end) (length (list-walk m s .sheet)) (length (old-list m s)) k c e)
 
-  least-right : (n : Lent) → Given (does m s (list n)) → (l : List ModuleVersion) × Gives (does m s (list n)) n l × Least m s l
+  least-right : (n : Lent) → Counted (does m s (list n)) → (l : List ModuleVersion) × Gives (does m s (list n)) n l × Least m s l
   least-right n g = let (w, ok) = list-given n g in (old-list m s, list-gives n w ok, list-right-at m s ok)
 
   -- a refusal
@@ -149,56 +150,56 @@ module _ (m : Meaning) (s : State) where
         × (does m s (list n) .slices .sheet ≡ filled blank-place (n .sheet) sheet) × ((x : ModuleVersion) → x ∈ module-versions sheet ↔ Reached m s x)
     reaches-right k c q =
         let (w, ok) = list-given n (k, c, q) in
-        let is = wide-list-is n w in
+        let is = long-list-is n w in
         let z : counted k c ≡ counted places rows = sym q ∙ ap (λ o. o .reply) is ∙ ap (λ e. replied e places rows) ok in
         let all = take-all 256 (list-walk m s .sheet) (sheet-room m s (λ e. let y : _≡_ {A = ℕ} 0 1 = cc in omega arith)) in
         (list-walk m s .sheet, cc, ap (λ o. o .slices .sheet) is ∙ ap (filled blank-place (n .sheet)) all, λ x. (sheet-reached m s x, reached-sheet m s ok x))
 
     -- where the walk was stopped, the refusal tells by what
-    told : (p : ℕ) (f : Fault) (r : Refusal) → list-walk m s .end ≡ stopped p f → listing m s n .reply ≡ refused-for r → list-walk m s .end ≡ stopped (r .sheet-place) (fault-of r)
+    told : (p : ℕ) (f : Fault) (r : Refusal) → list-walk m s .end ≡ stopped p f → lists m s n .reply ≡ refused r → list-walk m s .end ≡ stopped (r .sheet-place) (fault-of r)
     told p f r e q =
-        let z : refused-for r ≡ refused-for (brought p f) = sym q ∙ ap (λ w. replied w places rows) e in
-        let same : r ≡ brought p f = cc in
+        let z : refused r ≡ refused (refusal-at p f) = sym q ∙ ap (λ w. replied w places rows) e in
+        let same : r ≡ refusal-at p f = cc in
         e ∙ ap (λ w. stopped (w .sheet-place) (fault-of w)) (sym same)
 
-    shows : (r : Refusal) → list-walk m s .end ≡ stopped (r .sheet-place) (fault-of r) → Shown-on m s (listing m s n .slices .sheet) (r .sheet-place) (fault-of r)
+    shows : (r : Refusal) → list-walk m s .end ≡ stopped (r .sheet-place) (fault-of r) → Shown-on m s (lists m s n .slices .sheet) (r .sheet-place) (fault-of r)
     shows r e =
         shown-on m s (filled blank-place (n .sheet) (take 256 (list-walk m s .sheet))) (on-slice m s (n .sheet) (λ f. let z : _≡_ {A = ℕ} 0 1 = cc in omega arith))
         (r .sheet-place) (fault-of r) e
 
-    explains-right : wide n ≡ true → (r : Refusal) → does m s (list n) .reply ≡ refused-for r
-        → Shown-on m s (does m s (list n) .slices .sheet) (r .sheet-place) (fault-of r) ⊎ ((r ≡ plainly too-many-module-versions) × Overfull m s n (does m s (list n)))
-    explains-right w r = subst Explains (sym (wide-list-is n w)) (λ q. go (list-walk m s .end) refl q)
+    explains-right : long-enough n ≡ true → (r : Refusal) → does m s (list n) .reply ≡ refused r
+        → Shown-on m s (does m s (list n) .slices .sheet) (r .sheet-place) (fault-of r) ⊎ ((r ≡ refusal-for too-many-module-versions) × Overfull m s n (does m s (list n)))
+    explains-right w r = subst Explains (sym (long-list-is n w)) (λ q. go (list-walk m s .end) refl q)
       where
         Explains : Outcome → Type 0
-        Explains o = o .reply ≡ refused-for r → Shown-on m s (o .slices .sheet) (r .sheet-place) (fault-of r) ⊎ ((r ≡ plainly too-many-module-versions) × Overfull m s n o)
+        Explains o = o .reply ≡ refused r → Shown-on m s (o .slices .sheet) (r .sheet-place) (fault-of r) ⊎ ((r ≡ refusal-for too-many-module-versions) × Overfull m s n o)
 
-        go : (e : End) → list-walk m s .end ≡ e → replied e places rows ≡ refused-for r
-            → Shown-on m s (listing m s n .slices .sheet) (r .sheet-place) (fault-of r) ⊎ ((r ≡ plainly too-many-module-versions) × Overfull m s n (listing m s n))
+        go : (e : End) → list-walk m s .end ≡ e → replied e places rows ≡ refused r
+            → Shown-on m s (lists m s n .slices .sheet) (r .sheet-place) (fault-of r) ⊎ ((r ≡ refusal-for too-many-module-versions) × Overfull m s n (lists m s n))
         go done e q = let z : _≡_ {A = ℕ} 0 1 = cc in absurd (omega arith)
         go (stopped p f) e q = inl (shows r (told p f r e (ap (λ w. replied w places rows) e ∙ q)))
-        go full e q = inr (let same : plainly too-many-module-versions ≡ r = cc in sym same, (many m s e, (take 256 (list-walk m s .sheet), full-256 m s e, refl, first-distinct 256 (list-walk m s .sheet) (sheet-distinct m s), λ x h. sheet-reached m s x (first-was 256 (list-walk m s .sheet) x h))))
+        go no-room e q = inr (let same : refusal-for too-many-module-versions ≡ r = cc in sym same, (many m s e, (take 256 (list-walk m s .sheet), no-room-256 m s e, refl, first-distinct 256 (list-walk m s .sheet) (sheet-distinct m s), λ x h. sheet-reached m s x (first-was 256 (list-walk m s .sheet) x h))))
 
-    deserved-right : wide n ≡ true → Few m s → Deserved m s (does m s (list n))
-    deserved-right w few = subst (Deserved m s) (sym (wide-list-is n w)) (either, (to, from), λ r q. shows r (stopped-at r q))
+    deserved-right : long-enough n ≡ true → Few m s → Deserved m s (does m s (list n))
+    deserved-right w few = subst (Deserved m s) (sym (long-list-is n w)) (either, (to, from), λ r q. shows r (stopped-at r q))
       where
-        refused-at : Stopped m s → Refused (listing m s n)
-        refused-at (p, f, e) = (brought p f, ap (λ w. replied w places rows) e)
+        refused-at : Stopped m s → Refused (lists m s n)
+        refused-at (p, f, e) = (refusal-at p f, ap (λ w. replied w places rows) e)
 
-        either : Given (listing m s n) ⊎ Refused (listing m s n)
+        either : Counted (lists m s n) ⊎ Refused (lists m s n)
         either = ⊎-elim (λ e. inl (places, rows, ap (λ w. replied w places rows) e)) (λ h. inr (refused-at h)) (refusal-right-at m s .0 few .0)
 
-        stopped-at : (r : Refusal) → listing m s n .reply ≡ refused-for r → list-walk m s .end ≡ stopped (r .sheet-place) (fault-of r)
+        stopped-at : (r : Refusal) → lists m s n .reply ≡ refused r → list-walk m s .end ≡ stopped (r .sheet-place) (fault-of r)
         stopped-at r q =
             ⊎-elim
-            (λ e. let z : refused-for r ≡ counted places rows = sym q ∙ ap (λ w. replied w places rows) e in let y : _≡_ {A = ℕ} 0 1 = cc in absurd (omega arith))
+            (λ e. let z : refused r ≡ counted places rows = sym q ∙ ap (λ w. replied w places rows) e in let y : _≡_ {A = ℕ} 0 1 = cc in absurd (omega arith))
             (λ (p, f, e). told p f r e q)
             (refusal-right-at m s .0 few .0)
 
-        to : Refused (listing m s n) → Broken m s
+        to : Refused (lists m s n) → Broken m s
         to (r, q) = refusal-right-at m s .0 few .1 .0 (r .sheet-place, fault-of r, stopped-at r q)
 
-        from : Broken m s → Refused (listing m s n)
+        from : Broken m s → Refused (lists m s n)
         from b = refused-at (refusal-right-at m s .0 few .1 .1 b)
 
   -- a lower
@@ -211,85 +212,85 @@ module _ (m : Meaning) (s : State) where
     abbrev settled : Outcome
     settled = record {
       reply = counted (length (lower-walk m s cs .sheet)) (length (old-list m s));
-      state = with-rows s (kept-rows m s cs);
+      state = with-rows s (kept-rows (view m s) cs);
       slices = holding n (lower-walk m s cs .sheet) (old-list m s);
     }
 
-    settles : wide n ≡ true → list-walk m s .end ≡ done → can-lower p v (old-list m s) ≡ true → lower-walk m s cs .end ≡ done → does m s (lower p v n) ≡ settled
+    settles : long-enough n ≡ true → list-walk m s .end ≡ done → can-lower p v (old-list m s) ≡ true → lower-walk m s cs .end ≡ done → does m s (lower p v n) ≡ settled
     unfolding does
     settles w l t e =
-        ap (λ b. cond b (lowers m s p v n) (record { reply = refused-for (plainly slice-too-short); state = s; slices = holding n [] [] })) w
-        ∙ ap (λ e. if-done e (cond (can-lower p v (old-list m s)) (lowering m s n cs) (nothing-lower m s n)) (listing m s n)) l
-        ∙ ap (λ b. cond b (lowering m s n cs) (nothing-lower m s n)) t
+        ap (λ b. cond b (lowers m s p v n) (record { reply = refused (refusal-for slice-too-short); state = s; slices = holding n [] [] })) w
+        ∙ ap (λ e. if-done e (cond (can-lower p v (old-list m s)) (lowers-by m s n cs) (lowers-nothing m s n)) (lists m s n)) l
+        ∙ ap (λ b. cond b (lowers-by m s n cs) (lowers-nothing m s n)) t
         ∙ ap (λ e. record {
           reply = replied e (length (lower-walk m s cs .sheet)) (length (old-list m s));
-          state = if-done e (with-rows s (kept-rows m s cs)) s;
+          state = if-done e (with-rows s (kept-rows (view m s) cs)) s;
           slices = holding n (lower-walk m s cs .sheet) (old-list m s);
         }) e
 
-    lower-given : Given (does m s (lower p v n)) → (wide n ≡ true) × (list-walk m s .end ≡ done) × (can-lower p v (old-list m s) ≡ true) × (lower-walk m s cs .end ≡ done)
+    lower-given : Counted (does m s (lower p v n)) → (long-enough n ≡ true) × (list-walk m s .end ≡ done) × (can-lower p v (old-list m s) ≡ true) × (lower-walk m s cs .end ≡ done)
     unfolding does
-    lower-given g = let (w, h) = wide-given n (lowers m s p v n) g in by-list w (list-walk m s .end) refl h
+    lower-given g = let (w, h) = long-counted n (lowers m s p v n) g in by-list w (list-walk m s .end) refl h
       where
         chosen : Bool → Outcome
-        chosen b = cond b (lowering m s n cs) (nothing-lower m s n)
+        chosen b = cond b (lowers-by m s n cs) (lowers-nothing m s n)
 
-        by-test : wide n ≡ true → list-walk m s .end ≡ done → (b : Bool) → can-lower p v (old-list m s) ≡ b → Given (chosen b)
-            → (wide n ≡ true) × (list-walk m s .end ≡ done) × (can-lower p v (old-list m s) ≡ true) × (lower-walk m s cs .end ≡ done)
+        by-test : long-enough n ≡ true → list-walk m s .end ≡ done → (b : Bool) → can-lower p v (old-list m s) ≡ b → Counted (chosen b)
+            → (long-enough n ≡ true) × (list-walk m s .end ≡ done) × (can-lower p v (old-list m s) ≡ true) × (lower-walk m s cs .end ≡ done)
         by-test w l true t (k, c, q) = (w, l, t, replied-done (lower-walk m s cs .end) (length (lower-walk m s cs .sheet)) (length (old-list m s)) k c q)
         by-test w l false t (k, c, q) = let z : _≡_ {A = ℕ} 0 1 = cc in absurd (omega arith)
 
         -- a list that is refused is not given
-        unlisted : (e : End) → list-walk m s .end ≡ e → (e ≡ done → ⊥) → Given (listing m s n) → ⊥
+        unlisted : (e : End) → list-walk m s .end ≡ e → (e ≡ done → ⊥) → Counted (lists m s n) → ⊥
         unlisted e l other (k, c, q) = other (sym l ∙ replied-done (list-walk m s .end) (length (list-walk m s .sheet)) (length (old-list m s)) k c q)
 
-        by-list : wide n ≡ true → (e : End) → list-walk m s .end ≡ e → Given (if-done e (chosen (can-lower p v (old-list m s))) (listing m s n))
-            → (wide n ≡ true) × (list-walk m s .end ≡ done) × (can-lower p v (old-list m s) ≡ true) × (lower-walk m s cs .end ≡ done)
+        by-list : long-enough n ≡ true → (e : End) → list-walk m s .end ≡ e → Counted (if-done e (chosen (can-lower p v (old-list m s))) (lists m s n))
+            → (long-enough n ≡ true) × (list-walk m s .end ≡ done) × (can-lower p v (old-list m s) ≡ true) × (lower-walk m s cs .end ≡ done)
         by-list w done l h = by-test w l (can-lower p v (old-list m s)) refl h
         by-list w (stopped k f) l h = absurd (unlisted (stopped k f) l (λ e. let z : _≡_ {A = ℕ} 0 1 = cc in omega arith) h)
-        by-list w full l h = absurd (unlisted full l (λ e. let z : _≡_ {A = ℕ} 0 1 = cc in omega arith) h)
+        by-list w no-room l h = absurd (unlisted no-room l (λ e. let z : _≡_ {A = ℕ} 0 1 = cc in omega arith) h)
 
   lists-first-right : (p v : Bytes) (n : Lent) → Refused (does m s (list n)) → does m s (lower p v n) ≡ does m s (list n)
   unfolding does
-  lists-first-right p v n = by-width (wide n)
+  lists-first-right p v n = by-width (long-enough n)
     where
       short : Outcome
-      short = record { reply = refused-for (plainly slice-too-short); state = s; slices = holding n [] [] }
+      short = record { reply = refused (refusal-for slice-too-short); state = s; slices = holding n [] [] }
 
       chosen : Outcome
-      chosen = cond (can-lower p v (old-list m s)) (lowering m s n (ceilings-at m s p v)) (nothing-lower m s n)
+      chosen = cond (can-lower p v (old-list m s)) (lowers-by m s n (ceilings-at m s p v)) (lowers-nothing m s n)
 
-      by-end : (e : End) → (r : Refusal) → replied e (length (list-walk m s .sheet)) (length (old-list m s)) ≡ refused-for r → if-done e chosen (listing m s n) ≡ listing m s n
+      by-end : (e : End) → (r : Refusal) → replied e (length (list-walk m s .sheet)) (length (old-list m s)) ≡ refused r → if-done e chosen (lists m s n) ≡ lists m s n
       by-end done r q = let z : _≡_ {A = ℕ} 0 1 = cc in absurd (omega arith)
       by-end (stopped k f) r q = refl
-      by-end full r q = refl
+      by-end no-room r q = refl
 
-      by-width : (b : Bool) → Refused (cond b (listing m s n) short) → cond b (lowers m s p v n) short ≡ cond b (listing m s n) short
+      by-width : (b : Bool) → Refused (cond b (lists m s n) short) → cond b (lowers m s p v n) short ≡ cond b (lists m s n) short
       by-width true (r, q) = by-end (list-walk m s .end) r q
       by-width false h = refl
 
-  idle-right : (p v : Bytes) (n : Lent) → Given (does m s (list n)) → (l : List ModuleVersion) × Gives (does m s (list n)) n l
-      × (((x : ModuleVersion) → x ∈ behind l → x .path ≡ p → Below v (x .version) → ⊥)
-      → (does m s (lower p v n) .reply ≡ refused-for (plainly nothing-to-change)) × (does m s (lower p v n) .slices ≡ does m s (list n) .slices))
+  idle-right : (p v : Bytes) (n : Lent) → Counted (does m s (list n)) → (l : List ModuleVersion) × Gives (does m s (list n)) n l
+      × (((x : ModuleVersion) → x ∈ after-main l → x .path ≡ p → Below v (x .version) → ⊥)
+      → (does m s (lower p v n) .reply ≡ refused (refusal-for nothing-to-change)) × (does m s (lower p v n) .slices ≡ does m s (list n) .slices))
   unfolding does
   idle-right p v n g =
       let (w, ok) = list-given n g in (
         old-list m s,
         list-gives n w ok,
         λ none.
-            let e : if-wide n s (lowers m s p v n) ≡ nothing-lower m s n =
-            ap (λ b. cond b (lowers m s p v n) (record { reply = refused-for (plainly slice-too-short); state = s; slices = holding n [] [] })) w
-            ∙ ap (λ e. if-done e (cond (can-lower p v (old-list m s)) (lowering m s n (ceilings-at m s p v)) (nothing-lower m s n)) (listing m s n)) ok
-            ∙ ap (λ b. cond b (lowering m s n (ceilings-at m s p v)) (nothing-lower m s n)) (cannot none)
+            let e : if-long-enough n s (lowers m s p v n) ≡ lowers-nothing m s n =
+            ap (λ b. cond b (lowers m s p v n) (record { reply = refused (refusal-for slice-too-short); state = s; slices = holding n [] [] })) w
+            ∙ ap (λ e. if-done e (cond (can-lower p v (old-list m s)) (lowers-by m s n (ceilings-at m s p v)) (lowers-nothing m s n)) (lists m s n)) ok
+            ∙ ap (λ b. cond b (lowers-by m s n (ceilings-at m s p v)) (lowers-nothing m s n)) (cannot none)
             in
-            (ap (λ o. o .reply) e, ap (λ o. o .slices) e ∙ sym (ap (λ o. o .slices) (wide-list-is n w))),
+            (ap (λ o. o .reply) e, ap (λ o. o .slices) e ∙ sym (ap (λ o. o .slices) (long-list-is n w))),
       )
     where
-      cannot : ((x : ModuleVersion) → x ∈ behind (old-list m s) → x .path ≡ p → Below v (x .version) → ⊥) → can-lower p v (old-list m s) ≡ false
+      cannot : ((x : ModuleVersion) → x ∈ after-main (old-list m s) → x .path ≡ p → Below v (x .version) → ⊥) → can-lower p v (old-list m s) ≡ false
       cannot none =
           ⊎-elim
           (λ t.
-          let (x, h, both) = some-there (λ x. same-path x p && isLt (version-order v (x .version))) (behind (old-list m s)) t in
+          let (x, h, both) = some-there (λ x. same-path x p && isLt (version-order v (x .version))) (after-main (old-list m s)) t in
           let (q, u) = and-parts (same-path x p) (isLt (version-order v (x .version))) both in
           absurd (none x h (equal-from-test paths (x .path) p q) (before-from-less versions v (x .version) u)))
           (λ t. t)
@@ -297,19 +298,19 @@ module _ (m : Meaning) (s : State) where
 
   looks-right : (n : Lent) → does m s (list n) .state ≡ s
   unfolding does
-  looks-right n = go (wide n)
+  looks-right n = go (long-enough n)
     where
-      go : (b : Bool) → cond b (listing m s n) (record { reply = refused-for (plainly slice-too-short); state = s; slices = holding n [] [] }) .state ≡ s
+      go : (b : Bool) → cond b (lists m s n) (record { reply = refused (refusal-for slice-too-short); state = s; slices = holding n [] [] }) .state ≡ s
       go true = refl
       go false = refl
 
-lowers-right : (m : Meaning) → Lawful m → (s : State) (p v : Bytes) (n : Lent) → Given (does m s (lower p v n)) → Lowered m s p v n (does m s (lower p v n))
+lowers-right : (m : Meaning) → Lawful m → (s : State) (p v : Bytes) (n : Lent) → Counted (does m s (lower p v n)) → Lowered m s p v n (does m s (lower p v n))
 lowers-right m law s p v n g =
     let (w, l, t, e) = lower-given m s p v n g in
     let (kept, again) = lower-right m law s p v e in
     subst (Lowered m s p v n) (sym (settles m s p v n w l t e)) (record {
       old = old-list m s;
-      given = ((length (lower-walk m s (ceilings-at m s p v) .sheet), refl), refl);
+      gives = ((length (lower-walk m s (ceilings-at m s p v) .sheet), refl), refl);
       least = list-right-at m s l;
       state = refl;
       kept = kept;
@@ -317,7 +318,7 @@ lowers-right m law s p v n g =
     })
   where
     then : Meaning → State → Bytes → Bytes → State
-    then m s p v = with-rows s (kept-rows m s (ceilings-at m s p v))
+    then m s p v = with-rows s (kept-rows (view m s) (ceilings-at m s p v))
 
 -- the slices' lengths
 
@@ -325,62 +326,63 @@ module _ (m : Meaning) (s : State) where
   abbrev Whole : Lent → Outcome → Type 0
   Whole n o = (length (o .slices .sheet) ≡ n .sheet) × (length (o .slices .list) ≡ n .list)
 
-  held : (n : Lent) (sheet : List Place) (rows : List ModuleVersion) → wide n ≡ true → length rows ≤ 256
+  held : (n : Lent) (sheet : List Place) (rows : List ModuleVersion) → long-enough n ≡ true → length rows ≤ 256
       → (length (holding n sheet rows .sheet) ≡ n .sheet) × (length (holding n sheet rows .list) ≡ n .list)
   held n sheet rows w h = (
-    filled-length blank-place (n .sheet) (take 256 sheet) (omega (arith, short-256 sheet, wide-sheet n w)),
-    filled-length blank (n .list) rows (omega (arith, wide-list n w)),
+    filled-length blank-place (n .sheet) (take 256 sheet) (omega (arith, short-256 sheet, long-sheet n w)),
+    filled-length blank (n .list) rows (omega (arith, long-list n w)),
   )
 
-  wide-whole : (n : Lent) (o : Outcome) → (wide n ≡ true → Whole n o) → Whole n (if-wide n s o)
-  wide-whole n o h = go (wide n) refl
+  long-whole : (n : Lent) (o : Outcome) → (long-enough n ≡ true → Whole n o) → Whole n (if-long-enough n s o)
+  long-whole n o h = go (long-enough n) refl
     where
-      go : (b : Bool) → wide n ≡ b → Whole n (cond b o (record { reply = refused-for (plainly slice-too-short); state = s; slices = holding n [] [] }))
+      go : (b : Bool) → long-enough n ≡ b → Whole n (cond b o (record { reply = refused (refusal-for slice-too-short); state = s; slices = holding n [] [] }))
       go true e = h e
       go false e = (filled-length blank-place (n .sheet) [] (omega arith), filled-length blank (n .list) [] (omega arith))
 
-  listing-whole : (n : Lent) → wide n ≡ true → Whole n (listing m s n)
+  listing-whole : (n : Lent) → long-enough n ≡ true → Whole n (lists m s n)
   listing-whole n w = held n (list-walk m s .sheet) (if-done (list-walk m s .end) (old-list m s) []) w (go (list-walk m s .end) refl)
     where
       go : (e : End) → list-walk m s .end ≡ e → length (if-done e (old-list m s) []) ≤ 256
       go done q = list-room m s q
       go (stopped k f) q = omega arith
-      go full q = omega arith
+      go no-room q = omega arith
 
-  lowers-whole : (p v : Bytes) (n : Lent) → wide n ≡ true → Whole n (lowers m s p v n)
+  lowers-whole : (p v : Bytes) (n : Lent) → long-enough n ≡ true → Whole n (lowers m s p v n)
   lowers-whole p v n w = by-list (list-walk m s .end) refl
     where
       chosen : Bool → Outcome
-      chosen b = cond b (lowering m s n (ceilings-at m s p v)) (nothing-lower m s n)
+      chosen b = cond b (lowers-by m s n (ceilings-at m s p v)) (lowers-nothing m s n)
 
       by-test : list-walk m s .end ≡ done → (b : Bool) → Whole n (chosen b)
       by-test q true = held n (lower-walk m s (ceilings-at m s p v) .sheet) (old-list m s) w (list-room m s q)
       by-test q false = listing-whole n w
 
-      by-list : (e : End) → list-walk m s .end ≡ e → Whole n (if-done e (chosen (can-lower p v (old-list m s))) (listing m s n))
+      by-list : (e : End) → list-walk m s .end ≡ e → Whole n (if-done e (chosen (can-lower p v (old-list m s))) (lists m s n))
       by-list done q = by-test q (can-lower p v (old-list m s))
       by-list (stopped k f) q = listing-whole n w
-      by-list full q = listing-whole n w
+      by-list no-room q = listing-whole n w
 
   lengths-right : (n : Lent) → Whole n (does m s (list n))
   unfolding does
-  lengths-right n = wide-whole n (listing m s n) (listing-whole n)
+  lengths-right n = long-whole n (lists m s n) (listing-whole n)
 
   lower-lengths-right : (p v : Bytes) (n : Lent) → Whole n (does m s (lower p v n))
   unfolding does
-  lower-lengths-right p v n = wide-whole n (lowers m s p v n) (lowers-whole p v n)
+  lower-lengths-right p v n = long-whole n (lowers m s p v n) (lowers-whole p v n)
 
 pub runs-right : Runs-right
 runs-right m law calls = let s = after m fresh calls in record {
-  refuses = refuses-right m s;
-  least = least-right m s;
-  reaches = reaches-right m s;
-  explains = explains-right m s;
-  deserved = deserved-right m s;
-  lists-first = lists-first-right m s;
-  idle = idle-right m s;
-  lowers = lowers-right m law s;
-  lengths = lengths-right m s;
+  refused-unchanged = refuses-right m s;
+  list-least = least-right m s;
+  list-reached = reaches-right m s;
+  main-alone = λ x r p. ⊎-elim (λ e. e) (λ off. absurd (off p)) (main-or-apart m s x r);
+  refusal-shown = explains-right m s;
+  refusal-deserved = deserved-right m s;
+  lower-lists-first = lists-first-right m s;
+  lower-idle = idle-right m s;
+  lower-kept = lowers-right m law s;
+  list-lengths = lengths-right m s;
   lower-lengths = lower-lengths-right m s;
-  looks = looks-right m s;
+  list-unchanged = looks-right m s;
 }

@@ -1,4 +1,5 @@
--- What the calls that change the tables do, in the tables' own words. Assumes nothing.
+-- What load, raise, drop and exclude do to the tables, said by what the tables hold and not by how it is computed; and when raise, drop and
+-- exclude are refused. Assumes nothing.
 use mathlib.Core.Path.{_≡_}
 use mathlib.Core.List.{List}
 use mathlib.Core.Logic.{_↔_, _⊎_}
@@ -7,42 +8,39 @@ use lib.ListN.{length}
 use Rattle.std.specs.shelf.Lists.{All}
 use Rattle.rules.specs.Orders.{Bytes}
 use Rattle.rules.specs.Names.{ModuleVersion, Stands, _∈_}
+use Rattle.rules.specs.Rows.{No-row}
 use Rattle.rules.specs.Causes.{Cause, table-full, nothing-to-change}
 use Rattle.rules.specs.Sources.{Meaning}
 use Rattle.rules.specs.Projects.{State}
 use Rattle.rules.specs.Lists.{Nowhere-above}
-use Rattle.rules.specs.Calls.{Manifest, manifest, Call, load, raise, drop, exclude, accepted, refused-for, Outcome, plainly, does}
+use Rattle.rules.specs.Calls.{Manifest, manifest, Call, load, raise, drop, exclude, accepted, refused, Outcome, refusal-for, does}
 use Rattle.rules.specs.Runs.{after, fresh, In-bounds}
-
--- a table has no row of a path
-abbrev pub No-row : Bytes → List ModuleVersion → Type 0
-No-row p rows = (y : ModuleVersion) → y ∈ rows → y .path ≡ p → ⊥
 
 abbrev pub Accepted : Outcome → Type 0
 Accepted o = o .reply ≡ accepted
 
 abbrev pub Refused-with : Cause → Outcome → Type 0
-Refused-with c o = o .reply ≡ refused-for (plainly c)
+Refused-with c o = o .reply ≡ refused (refusal-for c)
 
 pub record Changes (m : Meaning) (s : State) : Type 0 where
   -- a manifest that is loaded: its main path, of each path the highest of its rows, and its exclusions
-  pub loads : (t : Manifest) → Accepted (does m s (load (manifest t)))
-  pub main : (t : Manifest) → does m s (load (manifest t)) .state .main ≡ t .main
-  pub rows : (t : Manifest) (y : ModuleVersion) → y ∈ does m s (load (manifest t)) .state .rows → y ∈ t .requires
-  pub highest : (t : Manifest) → Nowhere-above (t .requires) (does m s (load (manifest t)) .state .rows)
-  pub exclusions : (t : Manifest) (y : ModuleVersion) → y ∈ does m s (load (manifest t)) .state .exclusions ↔ y ∈ t .excludes
+  pub load-accepted : (t : Manifest) → Accepted (does m s (load (manifest t)))
+  pub load-main : (t : Manifest) → does m s (load (manifest t)) .state .main ≡ t .main
+  pub load-rows : (t : Manifest) (y : ModuleVersion) → y ∈ does m s (load (manifest t)) .state .rows → y ∈ t .requires
+  pub load-highest : (t : Manifest) → Nowhere-above (t .requires) (does m s (load (manifest t)) .state .rows)
+  pub load-exclusions : (t : Manifest) (y : ModuleVersion) → y ∈ does m s (load (manifest t)) .state .exclusions ↔ y ∈ t .excludes
   -- a raise sets the row of its path
-  pub raises : (x : ModuleVersion) → Accepted (does m s (raise x)) → (y : ModuleVersion) → y ∈ does m s (raise x) .state .rows ↔ ((y ≡ x) ⊎ ((y ∈ s .rows) × (y .path ≡ x .path → ⊥)))
-  pub high : (x : ModuleVersion) → Refused-with nothing-to-change (does m s (raise x)) ↔ Stands x (s .rows)
-  pub full : (x : ModuleVersion) → Refused-with table-full (does m s (raise x)) ↔ (No-row (x .path) (s .rows) × (256 ≤ length (s .rows)))
+  pub raise-rows : (x : ModuleVersion) → Accepted (does m s (raise x)) → (y : ModuleVersion) → y ∈ does m s (raise x) .state .rows ↔ ((y ≡ x) ⊎ ((y ∈ s .rows) × (y .path ≡ x .path → ⊥)))
+  pub raise-not-higher : (x : ModuleVersion) → Refused-with nothing-to-change (does m s (raise x)) ↔ Stands x (s .rows)
+  pub raise-table-full : (x : ModuleVersion) → Refused-with table-full (does m s (raise x)) ↔ (No-row (x .path) (s .rows) × (256 ≤ length (s .rows)))
   -- a drop takes the row of its path out
-  pub drops : (p : Bytes) → Accepted (does m s (drop p)) → (y : ModuleVersion) → y ∈ does m s (drop p) .state .rows ↔ ((y ∈ s .rows) × (y .path ≡ p → ⊥))
-  pub gone : (p : Bytes) → Refused-with nothing-to-change (does m s (drop p)) ↔ No-row p (s .rows)
+  pub drop-rows : (p : Bytes) → Accepted (does m s (drop p)) → (y : ModuleVersion) → y ∈ does m s (drop p) .state .rows ↔ ((y ∈ s .rows) × (y .path ≡ p → ⊥))
+  pub drop-no-row : (p : Bytes) → Refused-with nothing-to-change (does m s (drop p)) ↔ No-row p (s .rows)
   -- an exclude adds an exclusion
-  pub excludes : (x : ModuleVersion) → Accepted (does m s (exclude x)) → (y : ModuleVersion) → y ∈ does m s (exclude x) .state .exclusions ↔ ((y ≡ x) ⊎ (y ∈ s .exclusions))
-  pub present : (x : ModuleVersion) → Refused-with nothing-to-change (does m s (exclude x)) ↔ x ∈ s .exclusions
-  pub no-room : (x : ModuleVersion) → Refused-with table-full (does m s (exclude x)) ↔ ((x ∈ s .exclusions → ⊥) × (32 ≤ length (s .exclusions)))
+  pub exclude-exclusions : (x : ModuleVersion) → Accepted (does m s (exclude x)) → (y : ModuleVersion) → y ∈ does m s (exclude x) .state .exclusions ↔ ((y ≡ x) ⊎ (y ∈ s .exclusions))
+  pub exclude-present : (x : ModuleVersion) → Refused-with nothing-to-change (does m s (exclude x)) ↔ x ∈ s .exclusions
+  pub exclude-table-full : (x : ModuleVersion) → Refused-with table-full (does m s (exclude x)) ↔ ((x ∈ s .exclusions → ⊥) × (32 ≤ length (s .exclusions)))
 
--- THE CHANGES: so it is after every run whose manifests are in bounds
+-- THE CHANGES: so it is after every run whose manifests are in bounds.
 abbrev pub Changes-right : Type 0
 Changes-right = (m : Meaning) (calls : List Call) → All In-bounds calls → Changes m (after m fresh calls)

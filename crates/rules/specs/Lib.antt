@@ -4,6 +4,7 @@ pub mod Paths
 pub mod Versions
 pub mod Names
 pub mod Tables
+pub mod Rows
 pub mod Causes
 pub mod Lines
 pub mod Manifests

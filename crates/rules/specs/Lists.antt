@@ -1,67 +1,36 @@
--- The list that a finished walk gives, and what it means: the least list that stands at or above all that is reached. Assumes nothing.
+-- The list: the main row, then each other path that is reached, ascending, at the highest version that is reached. Of all lists that are fit,
+-- that is, that have each path that is reached at that version or higher, it is the one that is nowhere above any. Assumes nothing.
 use mathlib.Core.Path.{_≡_}
-use mathlib.Core.Bool.{cond}
-use mathlib.Core.List.{List, [], _∷_}
+use mathlib.Core.List.{List, _∷_}
 use mathlib.Core.Logic.{_↔_}
-use Rattle.std.specs.Orderings.{isLt}
 use Rattle.std.specs.shelf.Lists.{All}
-use Rattle.std.specs.declared.cmp.Ordering.{Ordering}
-use Rattle.std.specs.declared.cmp.Ordering.the-variants.{Less, Equal, Greater}
-use Rattle.rules.specs.Paths.{path-order}
-use Rattle.rules.specs.Versions.{version-order}
-use Rattle.rules.specs.Names.{ModuleVersion, Before, Stands, _∈_}
+use Rattle.rules.specs.Names.{ModuleVersion, Stands, _∈_}
+use Rattle.rules.specs.Rows.{Ascending-rows, table}
 use Rattle.rules.specs.Sources.{Meaning}
 use Rattle.rules.specs.Projects.{State, main-row, off-main, Reached}
 use Rattle.rules.specs.Walks.{Place, module-versions, done, list-walk}
 
-abbrev pub higher : ModuleVersion → ModuleVersion → ModuleVersion
-higher x y = cond (isLt (version-order (x .version) (y .version))) y x
-
--- by how the path of x stands to that of y, the head of a table
-abbrev pub entered-by : Ordering → ModuleVersion → ModuleVersion → List ModuleVersion → List ModuleVersion → List ModuleVersion
-entered-by Less x y ys rest = x ∷ y ∷ ys
-entered-by Equal x y ys rest = higher x y ∷ ys
-entered-by Greater x y ys rest = y ∷ rest
-
--- a table with x entered at its path, where the higher version stays
-abbrev pub entered : ModuleVersion → List ModuleVersion → List ModuleVersion
-entered x [] = x ∷ []
-entered x (y ∷ ys) = entered-by (path-order (x .path) (y .path)) x y ys (entered x ys)
-
--- a table with one after another entered
-abbrev pub tabled : List ModuleVersion → List ModuleVersion → List ModuleVersion
-tabled t [] = t
-tabled t (x ∷ xs) = tabled (entered x t) xs
-
-abbrev pub table : List ModuleVersion → List ModuleVersion
-table = tabled []
-
--- the main row, then each other path of the sheet, ascending, with its highest version there
+-- the list that a sheet makes
 abbrev pub list-of : State → List Place → List ModuleVersion
-list-of s sheet = main-row s ∷ table (off-main s (module-versions sheet))
+list-of s sheet = main-row s ∷ table (off-main (s .main) (module-versions sheet))
 
--- each path once, ascending
-abbrev pub Ascending : List ModuleVersion → Type 0
-Ascending [] = Unit {0}
-Ascending (x ∷ xs) = All (λ y. Before (x .path) (y .path)) xs × Ascending xs
-
--- a list: the main row, then other paths, each once, ascending
+-- a list, of whatever versions: the main row, then other paths, each once, ascending
 abbrev pub Is-list : State → List ModuleVersion → Type 0
-Is-list s l = (xs : List ModuleVersion) × (l ≡ main-row s ∷ xs) × Ascending xs × All (λ x. x .path ≡ s .main → ⊥) xs
+Is-list s l = (xs : List ModuleVersion) × (l ≡ main-row s ∷ xs) × Ascending-rows xs × All (λ x. x .path ≡ s .main → ⊥) xs
 
--- every module version reached stands in it, at that version or higher
+-- fit: every module version that is reached stands in it, at that version or higher
 abbrev pub Fit : Meaning → State → List ModuleVersion → Type 0
 Fit m s l = (x : ModuleVersion) → Reached m s x → Stands x l
 
--- each of its paths stands in the other, at that version or higher
+-- nowhere above: each of its paths stands in the other, at that version or higher
 abbrev pub Nowhere-above : List ModuleVersion → List ModuleVersion → Type 0
 Nowhere-above l k = (x : ModuleVersion) → x ∈ l → Stands x k
 
--- of all lists that are fit, the one that is nowhere above any
+-- fit, and nowhere above any list that is fit
 abbrev pub Least-fit : Meaning → State → List ModuleVersion → Type 0
 Least-fit m s l = Fit m s l × ((k : List ModuleVersion) → Is-list s k → Fit m s k → Nowhere-above l k)
 
--- THE LIST: if the walk is done, a list is the one given exactly when it is fit and nowhere above any fit list
+-- THE LIST: if the walk is done, a list is the one that its sheet makes exactly when it is fit and nowhere above any list that is fit.
 abbrev pub List-right-at : Meaning → State → Type 0
 List-right-at m s = list-walk m s .end ≡ done
     → Is-list s (list-of s (list-walk m s .sheet))

@@ -1,4 +1,11 @@
--- Lower: the highest versions under given ceilings that can stand together. Assumes nothing.
+-- Lower: the highest versions that can stand together under ceilings. It takes a path and a version, and starts from the list: its paths but
+-- the main one are the old paths. The ceiling of an old path is its version on the list, and of the path taken the version taken; other paths
+-- have none. Each old path offers the versions that the exclude layer lists at or under its ceiling. A row is allowed if no chain of remaining
+-- requirements from it, itself included, meets a row above its ceiling or one whose manifest is missing. The kept row of an old path is its
+-- highest offered row that is allowed; the kept rows become the requirement rows.
+-- What that is worth: a set of module versions is sound if each is available, that is, the exclude layer finds its list, and above no ceiling,
+-- and if it holds all that remains required by its members. The kept rows lie in a sound set, no sound set has an old path above its kept row,
+-- and a list taken right after shows exactly the kept rows on the old paths. Assumes nothing.
 use mathlib.Core.Path.{_≡_}
 use mathlib.Core.Bool.{Bool, true, false, not, cond, _&&_, _||_}
 use mathlib.Core.List.{List, [], _∷_, _++_, map}
@@ -9,176 +16,167 @@ use Rattle.std.specs.shelf.Lists.{kept-by}
 use Rattle.rules.specs.Orders.{Bytes}
 use Rattle.rules.specs.Paths.{path-order}
 use Rattle.rules.specs.Versions.{version-order}
-use Rattle.rules.specs.Names.{ModuleVersion, same-path, Below, Stands, _∈_}
+use Rattle.rules.specs.Names.{ModuleVersion, same-path, Below, Stands, _∈_, at}
+use Rattle.rules.specs.Rows.{Ascending-rows, table}
 use Rattle.rules.specs.Causes.{Fault, is-missing}
-use Rattle.rules.specs.Sources.{Answer, given, refused, Meaning, Lawful, at}
-use Rattle.rules.specs.Projects.{State, layered, remaining, Requires}
-use Rattle.rules.specs.Walks.{Place, written, done, stopped, Walked, ended, within, walk, first-sheet, list-walk}
-use Rattle.rules.specs.Lists.{table, list-of, Ascending}
+use Rattle.rules.specs.Sources.{Answer, found, fault, Meaning, Lawful, found-in}
+use Rattle.rules.specs.Projects.{State, with-rows, View, view, remaining, Requires}
+use Rattle.rules.specs.Walks.{Place, written, done, stopped, Walked, ended, if-room, walk, first-sheet, list-walk}
+use Rattle.rules.specs.Lists.{list-of}
 
 -- a list without its main row
-abbrev pub behind : List ModuleVersion → List ModuleVersion
-behind [] = []
-behind (x ∷ xs) = xs
+abbrev pub after-main : List ModuleVersion → List ModuleVersion
+after-main [] = []
+after-main (x ∷ xs) = xs
 
 abbrev pub some : (ModuleVersion → Bool) → List ModuleVersion → Bool
 some test [] = false
 some test (x ∷ xs) = test x || some test xs
 
--- a list can be lowered at a path to a version: the path stands there, behind the main row, and above the version
+-- a list can be lowered at a path to a version: the path stands there, after the main row, above the version
 abbrev pub can-lower : Bytes → Bytes → List ModuleVersion → Bool
-can-lower p v l = some (λ x. same-path x p && isLt (version-order v (x .version))) (behind l)
+can-lower p v l = some (λ x. same-path x p && isLt (version-order v (x .version))) (after-main l)
 
--- The ceilings: a row for each path of the list but the main one, at its version there, and the given path at the given version.
-abbrev pub lowered : Bytes → Bytes → ModuleVersion → ModuleVersion
-lowered p v x = cond (same-path x p) (at (x .path) v) x
+-- the ceiling, as a row, that lowering p to v puts over a row of the list
+abbrev pub ceiling-of : Bytes → Bytes → ModuleVersion → ModuleVersion
+ceiling-of p v x = cond (same-path x p) (at (x .path) v) x
 
+-- the ceilings: one for each old path
 abbrev pub ceilings : Bytes → Bytes → List ModuleVersion → List ModuleVersion
-ceilings p v l = map (lowered p v) (behind l)
+ceilings p v l = map (ceiling-of p v) (after-main l)
 
--- x is on a path that has a ceiling: an old path
-abbrev pub Old : List ModuleVersion → ModuleVersion → Type 0
-Old cs x = (c : ModuleVersion) × (c ∈ cs) × (c .path ≡ x .path)
+-- x is on an old path, one that has a ceiling
+abbrev pub On-old-path : List ModuleVersion → ModuleVersion → Type 0
+On-old-path cs x = (c : ModuleVersion) × (c ∈ cs) × (c .path ≡ x .path)
 
--- x is above its ceiling; a path that has none is under it at every version
+-- x is above its ceiling; where its path has none, it is not
 abbrev pub Above : List ModuleVersion → ModuleVersion → Type 0
 Above cs x = (c : ModuleVersion) × (c ∈ cs) × (c .path ≡ x .path) × Below (c .version) (x .version)
 
 -- the same as a test
-abbrev pub above : List ModuleVersion → ModuleVersion → Bool
-above [] x = false
-above (c ∷ cs) x = (isEq (path-order (c .path) (x .path)) && isLt (version-order (c .version) (x .version))) || above cs x
+abbrev pub is-above : List ModuleVersion → ModuleVersion → Bool
+is-above [] x = false
+is-above (c ∷ cs) x = (isEq (path-order (c .path) (x .path)) && isLt (version-order (c .version) (x .version))) || is-above cs x
 
--- of ascending versions those at or under a ceiling, the highest first
-abbrev pub under : ModuleVersion → List Bytes → List ModuleVersion
-under c [] = []
-under c (v ∷ vs) = under c vs ++ cond (isLe (version-order v (c .version))) (at (c .path) v ∷ []) []
+-- the offer of a path: of its versions, ascending, those at or under the ceiling, the highest first
+abbrev pub offer : ModuleVersion → List Bytes → List ModuleVersion
+offer c [] = []
+offer c (v ∷ vs) = offer c vs ++ cond (isLe (version-order v (c .version))) (at (c .path) v ∷ []) []
 
--- the versions that a listing gives
-abbrev pub versions-in : Answer (List Bytes) → List Bytes
-versions-in (given vs) = vs
-versions-in (refused f) = []
+-- the offers of all old paths, from their listings
+abbrev pub offers : Meaning → List ModuleVersion → List ModuleVersion
+offers n [] = []
+offers n (c ∷ cs) = offer c (found-in (n .listing (c .path))) ++ offers n cs
 
--- what is offered: for each ceiling the listed versions at or under it
-abbrev pub offered : Meaning → List ModuleVersion → List ModuleVersion
-offered n [] = []
-offered n (c ∷ cs) = under c (versions-in (n .listing (c .path))) ++ offered n cs
+-- what comes after the listing of an old path: its offer is written from place 0
+abbrev pub offer-written : (List Place → Walked) → ModuleVersion → List Place → Answer (List Bytes) → Walked
+offer-written next c sheet (fault f) = ended (stopped 0 f) sheet
+offer-written next c sheet (found vs) = if-room next (written 0 (offer c vs) sheet)
 
--- what comes after the listing for a ceiling
-abbrev pub listed : (List Place → Walked) → ModuleVersion → List Place → Answer (List Bytes) → Walked
-listed next c sheet (refused f) = ended (stopped 0 f) sheet
-listed next c sheet (given vs) = within next (written 0 (under c vs) sheet)
+-- path by path the offer is written, and then comes what is next; a fault of a listing ends the walk
+abbrev pub offers-written : Meaning → (List Place → Walked) → List ModuleVersion → List Place → Walked
+offers-written n next [] sheet = next sheet
+offers-written n next (c ∷ cs) sheet = offer-written (offers-written n next cs) c sheet (n .listing (c .path))
 
--- path by path the offer is written, and then comes what is next
-abbrev pub offers : Meaning → (List Place → Walked) → List ModuleVersion → List Place → Walked
-offers n next [] sheet = next sheet
-offers n next (c ∷ cs) sheet = listed (offers n next cs) c sheet (n .listing (c .path))
-
--- a missing manifest is no fault here
+-- to lower, a missing manifest is no fault
 abbrev pub excused : Answer (List ModuleVersion) → Answer (List ModuleVersion)
-excused (given xs) = given xs
-excused (refused f) = cond (is-missing (f .cause)) (given []) (refused f)
+excused (found xs) = found xs
+excused (fault f) = cond (is-missing (f .cause)) (found []) (fault f)
 
-abbrev pub is-gone : Answer (List ModuleVersion) → Bool
-is-gone (given xs) = false
-is-gone (refused f) = is-missing (f .cause)
+abbrev pub is-missing-answer : Answer (List ModuleVersion) → Bool
+is-missing-answer (found xs) = false
+is-missing-answer (fault f) = is-missing (f .cause)
 
-abbrev pub list-in : Answer (List ModuleVersion) → List ModuleVersion
-list-in (given xs) = xs
-list-in (refused f) = []
-
-abbrev pub with-rows : State → List ModuleVersion → State
-with-rows s rows = record { main = s .main; rows = rows; exclusions = s .exclusions }
-
-module _ (m : Meaning) (s : State) where
-  -- what lower's walk asks: no row above its ceiling is questioned
+module _ (w : View) where
+  -- what lower's walk is answered: no row above its ceiling is questioned
   abbrev pub lower-ask : List ModuleVersion → ModuleVersion → Answer (List ModuleVersion)
-  lower-ask cs x = cond (above cs x) (given []) (excused (remaining m s x))
+  lower-ask cs x = cond (is-above cs x) (found []) (excused (remaining w x))
 
-  -- Lower's walk: the sheet is written anew, the main row and then the offers, and the walk goes on from place 1.
-  unfoldable pub lower-walk : List ModuleVersion → Walked
-  lower-walk cs = offers (layered m s) (walk (lower-ask cs) 255 1) cs (first-sheet s)
-
-  -- it is above its ceiling, or missing
-  abbrev pub bad : List ModuleVersion → ModuleVersion → Bool
-  bad cs x = above cs x || is-gone (remaining m s x)
+  -- it is above its ceiling, or its manifest is missing
+  abbrev pub is-bad : List ModuleVersion → ModuleVersion → Bool
+  is-bad cs x = is-above cs x || is-missing-answer (remaining w x)
 
   -- a chain from x meets, within so many steps, one that is bad
   unfoldable pub barred : List ModuleVersion → ℕ → ModuleVersion → Bool
-  barred cs zero x = bad cs x
-  barred cs (suc n) x = bad cs x || some (barred cs n) (list-in (remaining m s x))
+  barred cs zero x = is-bad cs x
+  barred cs (suc n) x = is-bad cs x || some (barred cs n) (found-in (remaining w x))
 
-  -- The kept rows: of each path the highest that was offered and is not barred. A sheet has at most 256 rows, and no chain has to be
-  -- longer than there are rows.
+  -- The kept rows, computed: of each path the highest offered row that is not barred. A sheet has at most 256 places, and no chain has to be
+  -- longer than there are places. What they are is said by `Kept`, below.
   unfoldable pub kept-rows : List ModuleVersion → List ModuleVersion
-  kept-rows cs = table (kept-by (λ x. not (barred cs 257 x)) (offered (layered m s) cs))
+  kept-rows cs = table (kept-by (λ x. not (barred cs 257 x)) (offers (w .layer) cs))
 
-  -- What that means, in chains.
-
-  -- a chain of remaining requirements from one to the other
+  -- a chain of remaining requirements leads from one to the other
   pub data Leads : ModuleVersion → ModuleVersion → Type 0 where
     itself : {x : ModuleVersion} → Leads x x
-    through : {x y z : ModuleVersion} → Requires m s x y → Leads y z → Leads x z
+    through : {x y z : ModuleVersion} → Requires w x y → Leads y z → Leads x z
 
-  -- it is missing
-  abbrev pub Gone : ModuleVersion → Type 0
-  Gone x = (f : Fault) × (remaining m s x ≡ refused f) × (is-missing (f .cause) ≡ true)
+  -- its manifest is missing
+  abbrev pub Missing : ModuleVersion → Type 0
+  Missing x = (f : Fault) × (remaining w x ≡ fault f) × (is-missing (f .cause) ≡ true)
 
-  -- it has a requirement list
+  -- available: the exclude layer finds its requirement list
   abbrev pub Available : ModuleVersion → Type 0
-  Available x = (xs : List ModuleVersion) × (layered m s .requirements x ≡ given xs)
+  Available x = (xs : List ModuleVersion) × (w .layer .requirements x ≡ found xs)
 
-  -- no chain from x, itself included, meets a row above its ceiling or one that is missing
+  -- allowed: no chain from x, itself included, meets a row above its ceiling or one whose manifest is missing
   abbrev pub Allowed : List ModuleVersion → ModuleVersion → Type 0
-  Allowed cs x = (y : ModuleVersion) → Leads x y → (Above cs y → ⊥) × (Gone y → ⊥)
+  Allowed cs x = (y : ModuleVersion) → Leads x y → (Above cs y → ⊥) × (Missing y → ⊥)
 
+  -- The kept rows: a table of allowed offers, in which every allowed offer stands.
   pub record Kept (cs rows : List ModuleVersion) : Type 0 where
-    pub ascending : Ascending rows
-    pub allowed : (x : ModuleVersion) → x ∈ rows → (x ∈ offered (layered m s) cs) × Allowed cs x
-    pub highest : (x : ModuleVersion) → x ∈ offered (layered m s) cs → Allowed cs x → Stands x rows
+    pub ascending : Ascending-rows rows
+    pub allowed : (x : ModuleVersion) → x ∈ rows → (x ∈ offers (w .layer) cs) × Allowed cs x
+    pub highest : (x : ModuleVersion) → x ∈ offers (w .layer) cs → Allowed cs x → Stands x rows
 
-  -- the list that lower starts from, and its ceilings
+  -- all that x leads to, itself included, is available and above no ceiling
+  abbrev pub Fits : List ModuleVersion → ModuleVersion → Type 0
+  Fits cs x = (y : ModuleVersion) → Leads x y → Available y × (Above cs y → ⊥)
+
+  -- A sound set: its module versions are available, above no ceiling, and hold among them all that remains required by one of them.
+  pub record Sound (cs : List ModuleVersion) (set : ModuleVersion → Type 0) : Type 0 where
+    pub available : (x : ModuleVersion) → set x → Available x
+    pub not-above : (x : ModuleVersion) → set x → Above cs x → ⊥
+    pub closed : (x y : ModuleVersion) → set x → Requires w x y → set y
+
+  -- what kept rows are worth
+  pub record Kept-right (cs rows : List ModuleVersion) : Type 0 where
+    -- they are a table, on old paths
+    pub ascending : Ascending-rows rows
+    pub on-old-paths : (x : ModuleVersion) → x ∈ rows → On-old-path cs x
+    -- By chains: a kept row fits, and whatever fits on an old path stands at or below a kept row. Whatever lies in a sound set fits,
+    -- since a set that is closed holds all that its members lead to; so this speaks of every set, told by a test or not.
+    pub fits : (x : ModuleVersion) → x ∈ rows → Fits cs x
+    pub highest : (x : ModuleVersion) → On-old-path cs x → Fits cs x → Stands x rows
+    -- By sets that are told by a test: the kept rows lie in a sound one, and none holds an old path above its kept row. Where there
+    -- is no kept row, none holds the path at all.
+    pub in-sound-set : (set : ModuleVersion → Bool) × Sound cs (λ x. set x ≡ true) × ((x : ModuleVersion) → x ∈ rows → set x ≡ true)
+    pub no-sound-set-above : (set : ModuleVersion → Bool) → Sound cs (λ x. set x ≡ true) → (x : ModuleVersion) → set x ≡ true → On-old-path cs x → Stands x rows
+
+module _ (m : Meaning) (s : State) where
+  -- Lower's walk: the sheet is written anew, the main row and then the offers, and the places from 1 on are questioned.
+  unfoldable pub lower-walk : List ModuleVersion → Walked
+  lower-walk cs = offers-written (view m s .layer) (walk (lower-ask (view m s) cs) 255 1) cs (first-sheet s)
+
+  -- the list that lower starts from, if the walk is done, and its ceilings
   abbrev pub old-list : List ModuleVersion
   old-list = list-of s (list-walk m s .sheet)
 
   abbrev pub ceilings-at : Bytes → Bytes → List ModuleVersion
   ceilings-at p v = ceilings p v old-list
 
-  -- all that x leads to, itself included, is available and above no ceiling
-  abbrev pub Fits : List ModuleVersion → ModuleVersion → Type 0
-  Fits cs x = (y : ModuleVersion) → Leads x y → Available y × (Above cs y → ⊥)
-
-  -- A set is sound if its module versions are available, above no ceiling, and closed under remaining requirements.
-  pub record Sound (cs : List ModuleVersion) (set : ModuleVersion → Type 0) : Type 0 where
-    pub available : (x : ModuleVersion) → set x → Available x
-    pub low : (x : ModuleVersion) → set x → Above cs x → ⊥
-    pub closed : (x y : ModuleVersion) → set x → Requires m s x y → set y
-
-  -- What the kept rows are worth.
-  pub record Kept-right-at (cs rows : List ModuleVersion) : Type 0 where
-    -- they are a table, on old paths
-    pub ascending : Ascending rows
-    pub old : (x : ModuleVersion) → x ∈ rows → Old cs x
-    -- By chains: a kept row fits, and whatever fits on an old path stands at or below a kept row. Whatever lies in a sound set fits,
-    -- since a set that is closed holds all that its members lead to; so this speaks of every set, told by a test or not.
-    pub fits : (x : ModuleVersion) → x ∈ rows → Fits cs x
-    pub highest : (x : ModuleVersion) → Old cs x → Fits cs x → Stands x rows
-    -- By sets that are told by a test: the kept rows lie in a sound one, and none holds an old path above its kept row. Where there
-    -- is no kept row, none holds the path at all.
-    pub lie : (set : ModuleVersion → Bool) × Sound cs (λ x. set x ≡ true) × ((x : ModuleVersion) → x ∈ rows → set x ≡ true)
-    pub most : (set : ModuleVersion → Bool) → Sound cs (λ x. set x ≡ true) → (x : ModuleVersion) → set x ≡ true → Old cs x → Stands x rows
-
-  -- A list's walk right then is done, and on the old paths the list shows exactly the kept rows.
+  -- The walk of a list taken right then is done, and on the old paths the list shows exactly the kept rows.
   pub record Relisted (cs rows : List ModuleVersion) : Type 0 where
     pub listed : list-walk m (with-rows s rows) .end ≡ done
-    pub shows : (x : ModuleVersion) → Old cs x → x ∈ list-of (with-rows s rows) (list-walk m (with-rows s rows) .sheet) ↔ x ∈ rows
+    pub shows : (x : ModuleVersion) → On-old-path cs x → x ∈ list-of (with-rows s rows) (list-walk m (with-rows s rows) .sheet) ↔ x ∈ rows
 
--- THE KEPT ROWS: where lower's walk is done, what is computed is what is meant, and nothing else is
+-- THE KEPT ROWS: where lower's walk is done, the rows that are computed are the kept rows, and no others are.
 abbrev pub Kept-meant : Type 0
 Kept-meant = (m : Meaning) (s : State) (p v : Bytes) → lower-walk m s (ceilings-at m s p v) .end ≡ done
-    → (rows : List ModuleVersion) → (rows ≡ kept-rows m s (ceilings-at m s p v)) ↔ Kept m s (ceilings-at m s p v) rows
+    → (rows : List ModuleVersion) → (rows ≡ kept-rows (view m s) (ceilings-at m s p v)) ↔ Kept (view m s) (ceilings-at m s p v) rows
 
--- THE LOWER: over a lawful meaning the kept rows are worth all that
+-- THE LOWER: over a lawful meaning the kept rows are worth what is said above.
 abbrev pub Lower-right : Type 0
 Lower-right = (m : Meaning) → Lawful m → (s : State) (p v : Bytes) → lower-walk m s (ceilings-at m s p v) .end ≡ done
-    → Kept-right-at m s (ceilings-at m s p v) (kept-rows m s (ceilings-at m s p v)) × Relisted m s (ceilings-at m s p v) (kept-rows m s (ceilings-at m s p v))
+    → Kept-right (view m s) (ceilings-at m s p v) (kept-rows (view m s) (ceilings-at m s p v))
+    × Relisted m s (ceilings-at m s p v) (kept-rows (view m s) (ceilings-at m s p v))

@@ -4,10 +4,10 @@ use mathlib.Core.Path.{_≡_}
 use mathlib.Core.Bool.{Bool, true, false, _&&_, _||_}
 use mathlib.Core.List.{List, [], _∷_}
 use mathlib.Core.Logic.{_⊎_}
-use Rattle.std.specs.Orderings.{isEq, isLe, thenBy}
+use Rattle.std.specs.Orderings.{isEq, thenBy}
 use Rattle.std.specs.declared.cmp.Ordering.{Ordering}
 use Rattle.std.specs.declared.cmp.Ordering.the-variants.{Less}
-use Rattle.rules.specs.Orders.{Bytes, Laws}
+use Rattle.rules.specs.Orders.{Bytes, At-or-below, Laws}
 use Rattle.rules.specs.Paths.{is-path, path-order}
 use Rattle.rules.specs.Versions.{is-version, parts, precedence, version-order}
 
@@ -22,11 +22,14 @@ Below a b = version-order a b ≡ Less
 
 -- a version is another, or below it
 abbrev pub Upto : Bytes → Bytes → Type 0
-Upto a b = isLe (version-order a b) ≡ true
+Upto = At-or-below version-order
 
 pub record ModuleVersion : Type 0 where
   pub path : Bytes
   pub version : Bytes
+
+abbrev pub at : Bytes → Bytes → ModuleVersion
+at p v = record { path = p; version = v }
 
 -- both of its texts are well formed
 abbrev pub is-module-version : ModuleVersion → Bool
@@ -57,7 +60,7 @@ abbrev pub has : List ModuleVersion → ModuleVersion → Bool
 has [] x = false
 has (y ∷ ys) x = same x y || has ys x
 
--- x stands in the list at its version or higher
+-- x stands in the list: its path is there, at its version or higher
 abbrev pub Stands : ModuleVersion → List ModuleVersion → Type 0
 Stands x ys = (y : ModuleVersion) × (y ∈ ys) × (x .path ≡ y .path) × Upto (x .version) (y .version)
 

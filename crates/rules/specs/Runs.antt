@@ -1,4 +1,5 @@
--- Runs of calls, and the law over all of them. Assumes nothing.
+-- Runs of calls from the fresh state, and the law over all of them: whatever calls were made, over every lawful meaning, a list that is given is
+-- the least that is fit, a refusal is deserved and shown, and a lower keeps the highest rows that can stand together. Assumes nothing.
 use mathlib.Core.Path.{_≡_}
 use mathlib.Core.Bool.{true}
 use mathlib.Core.List.{List, [], _∷_}
@@ -7,19 +8,20 @@ use Prim.Native.Nat.{ℕ, _≤_}
 use lib.Chars.{codes}
 use lib.ListN.{length}
 use Rattle.std.specs.shelf.Lists.{All}
-use Rattle.std.specs.declared.cmp.Ordering.the-variants.{Less}
 use Rattle.rules.specs.Orders.{Bytes}
-use Rattle.rules.specs.Names.{ModuleVersion, Below, module-order, _∈_, Distinct}
+use Rattle.rules.specs.Names.{ModuleVersion, Below, _∈_, Distinct}
+use Rattle.rules.specs.Rows.{Ascending-rows, Ascending-exclusions}
 use Rattle.rules.specs.Causes.{too-many-module-versions, nothing-to-change, Refusal, Fault}
 use Rattle.rules.specs.Sources.{Meaning, Lawful}
-use Rattle.rules.specs.Projects.{State, Reached, Few, Many}
+use Rattle.rules.specs.Projects.{State, with-rows, main-row, view, Reached, Few, Many}
 use Rattle.rules.specs.Walks.{Place, module-versions}
-use Rattle.rules.specs.Lists.{Ascending, Is-list, Least-fit}
+use Rattle.rules.specs.Lists.{Is-list, Least-fit}
 use Rattle.rules.specs.Faults.{Broken, Shown-on}
-use Rattle.rules.specs.Lowers.{behind, ceilings, Old, with-rows, Kept-right-at}
-use Rattle.rules.specs.Slices.{blank, blank-place, Lent, wide, filled}
-use Rattle.rules.specs.Calls.{manifest, unread, Call, load, raise, drop, exclude, lower, list, counted, refused-for, Outcome, plainly, does}
+use Rattle.rules.specs.Lowers.{after-main, ceilings, On-old-path, Kept-right}
+use Rattle.rules.specs.Slices.{blank, blank-place, Lent, long-enough, filled}
+use Rattle.rules.specs.Calls.{manifest, unread, Call, load, raise, drop, exclude, lower, list, counted, refused, Outcome, refusal-for, does}
 
+-- a fresh project
 abbrev pub fresh : State
 fresh = record { main = codes "_"; rows = []; exclusions = [] }
 
@@ -32,15 +34,16 @@ after m s (c ∷ cs) = after m (does m s c .state) cs
 abbrev pub outcome : Meaning → List Call → Call → Outcome
 outcome m calls c = does m (after m fresh calls) c
 
--- The call is accepted, the list slice holds just l and then blanks, and the answer tells how many rows l has.
+-- the call is accepted, the list slice holds just l and then blanks, and the reply tells how many rows l has
 abbrev pub Gives : Outcome → Lent → List ModuleVersion → Type 0
 Gives o n l = ((places : ℕ) × (o .reply ≡ counted places (length l))) × (o .slices .list ≡ filled blank (n .list) l)
 
-abbrev pub Given : Outcome → Type 0
-Given o = (places rows : ℕ) × (o .reply ≡ counted places rows)
+-- a list or a lower is accepted
+abbrev pub Counted : Outcome → Type 0
+Counted o = (places rows : ℕ) × (o .reply ≡ counted places rows)
 
 abbrev pub Refused : Outcome → Type 0
-Refused o = (r : Refusal) × (o .reply ≡ refused-for r)
+Refused o = (r : Refusal) × (o .reply ≡ refused r)
 
 abbrev pub fault-of : Refusal → Fault
 fault-of r = record { cause = r .cause; place = r .place; depth = r .depth }
@@ -50,11 +53,11 @@ module _ (m : Meaning) (s : State) where
   abbrev pub Least : List ModuleVersion → Type 0
   Least l = Is-list s l × ((k : List ModuleVersion) → Is-list s k → (k ≡ l) ↔ Least-fit m s k)
 
-  -- A list is given or refused, and refused exactly when some module version that is reached, the main one apart, has no requirement
-  -- list; and the refusal shows such a one at its sheet place.
+  -- A list is given or refused, and refused exactly when for some module version that is reached, the main one apart, no requirement list is
+  -- to be had; and the refusal shows such a one at its sheet place.
   abbrev pub Deserved : Outcome → Type 0
-  Deserved o = (Given o ⊎ Refused o) × (Refused o ↔ Broken m s)
-      × ((r : Refusal) → o .reply ≡ refused-for r → Shown-on m s (o .slices .sheet) (r .sheet-place) (fault-of r))
+  Deserved o = (Counted o ⊎ Refused o) × (Refused o ↔ Broken m s)
+      × ((r : Refusal) → o .reply ≡ refused r → Shown-on m s (o .slices .sheet) (r .sheet-place) (fault-of r))
 
   -- more than 256 are reached, and 256 of them, none twice, are on the sheet slice
   abbrev pub Overfull : Lent → Outcome → Type 0
@@ -65,57 +68,55 @@ module _ (m : Meaning) (s : State) where
   pub record Lowered (p v : Bytes) (n : Lent) (o : Outcome) : Type 0 where
     -- the list that it started from is on the list slice
     pub old : List ModuleVersion
-    pub given : Gives o n old
+    pub gives : Gives o n old
     pub least : Least old
     -- of the state only the rows are changed
     pub state : o .state ≡ with-rows s (o .state .rows)
-    -- the rows are the highest that can stand together under the ceilings
-    pub kept : Kept-right-at m s (ceilings p v old) (o .state .rows)
+    -- the rows are the highest that can stand together under the ceilings, as the state sees other modules then
+    pub kept : Kept-right (view m (o .state)) (ceilings p v old) (o .state .rows)
     -- a list taken right then, in slices long enough, is given, and on the old paths shows exactly the rows
-    pub relisted : (k : Lent) → wide k ≡ true → (l : List ModuleVersion) × Gives (does m (o .state) (list k)) k l
-        × ((x : ModuleVersion) → Old (ceilings p v old) x → x ∈ l ↔ x ∈ o .state .rows)
+    pub relisted : (k : Lent) → long-enough k ≡ true → (l : List ModuleVersion) × Gives (does m (o .state) (list k)) k l
+        × ((x : ModuleVersion) → On-old-path (ceilings p v old) x → x ∈ l ↔ x ∈ o .state .rows)
 
+  -- what holds of every call in the state s
   pub record Right : Type 0 where
     -- a call that is refused leaves the state as it was
-    pub refuses : (c : Call) → Refused (does m s c) → does m s c .state ≡ s
+    pub refused-unchanged : (c : Call) → Refused (does m s c) → does m s c .state ≡ s
     -- a list that is given is the least
-    pub least : (n : Lent) → Given (does m s (list n)) → (l : List ModuleVersion) × Gives (does m s (list n)) n l × Least l
+    pub list-least : (n : Lent) → Counted (does m s (list n)) → (l : List ModuleVersion) × Gives (does m s (list n)) n l × Least l
     -- and the sheet slice holds just what is reached, and then blanks
-    pub reaches : (n : Lent) (places rows : ℕ) → does m s (list n) .reply ≡ counted places rows → (sheet : List Place) × (places ≡ length sheet)
+    pub list-reached : (n : Lent) (places rows : ℕ) → does m s (list n) .reply ≡ counted places rows → (sheet : List Place) × (places ≡ length sheet)
         × (does m s (list n) .slices .sheet ≡ filled blank-place (n .sheet) sheet) × ((x : ModuleVersion) → x ∈ module-versions sheet ↔ Reached m s x)
-    -- a refusal in slices long enough shows why: by a module version that has no requirement list, or by there being more than 256
-    pub explains : (n : Lent) → wide n ≡ true → (r : Refusal) → does m s (list n) .reply ≡ refused-for r
-        → Shown-on m s (does m s (list n) .slices .sheet) (r .sheet-place) (fault-of r) ⊎ ((r ≡ plainly too-many-module-versions) × Overfull n (does m s (list n)))
+    -- of all that is reached only the main row is on the main path
+    pub main-alone : (x : ModuleVersion) → Reached m s x → x .path ≡ s .main → x ≡ main-row s
+    -- a refusal in slices long enough shows why: by a module version for which no list is to be had, or by there being more than 256
+    pub refusal-shown : (n : Lent) → long-enough n ≡ true → (r : Refusal) → does m s (list n) .reply ≡ refused r
+        → Shown-on m s (does m s (list n) .slices .sheet) (r .sheet-place) (fault-of r) ⊎ ((r ≡ refusal-for too-many-module-versions) × Overfull n (does m s (list n)))
     -- while at most 256 are reached, in slices long enough, a refusal is deserved
-    pub deserved : (n : Lent) → wide n ≡ true → Few m s → Deserved (does m s (list n))
+    pub refusal-deserved : (n : Lent) → long-enough n ≡ true → Few m s → Deserved (does m s (list n))
     -- where a list is refused, a lower does just what the list does
-    pub lists-first : (p v : Bytes) (n : Lent) → Refused (does m s (list n)) → does m s (lower p v n) ≡ does m s (list n)
-    -- where a list is given that has the path nowhere above the version, behind the main row, there is nothing to lower, and the slices
-    -- are as the list leaves them
-    pub idle : (p v : Bytes) (n : Lent) → Given (does m s (list n)) → (l : List ModuleVersion) × Gives (does m s (list n)) n l
-        × (((x : ModuleVersion) → x ∈ behind l → x .path ≡ p → Below v (x .version) → ⊥)
-        → (does m s (lower p v n) .reply ≡ refused-for (plainly nothing-to-change)) × (does m s (lower p v n) .slices ≡ does m s (list n) .slices))
-    -- what an accepted lower leaves is kept rightly
-    pub lowers : (p v : Bytes) (n : Lent) → Given (does m s (lower p v n)) → Lowered p v n (does m s (lower p v n))
+    pub lower-lists-first : (p v : Bytes) (n : Lent) → Refused (does m s (list n)) → does m s (lower p v n) ≡ does m s (list n)
+    -- where a list is given that has the path nowhere above the version, after the main row, there is nothing to lower, and the slices are
+    -- as the list leaves them
+    pub lower-idle : (p v : Bytes) (n : Lent) → Counted (does m s (list n)) → (l : List ModuleVersion) × Gives (does m s (list n)) n l
+        × (((x : ModuleVersion) → x ∈ after-main l → x .path ≡ p → Below v (x .version) → ⊥)
+        → (does m s (lower p v n) .reply ≡ refused (refusal-for nothing-to-change)) × (does m s (lower p v n) .slices ≡ does m s (list n) .slices))
+    -- an accepted lower is worth what is said above
+    pub lower-kept : (p v : Bytes) (n : Lent) → Counted (does m s (lower p v n)) → Lowered p v n (does m s (lower p v n))
     -- slices stay as long as they are, and a list changes no state
-    pub lengths : (n : Lent) → (length (does m s (list n) .slices .sheet) ≡ n .sheet) × (length (does m s (list n) .slices .list) ≡ n .list)
+    pub list-lengths : (n : Lent) → (length (does m s (list n) .slices .sheet) ≡ n .sheet) × (length (does m s (list n) .slices .list) ≡ n .list)
     pub lower-lengths : (p v : Bytes) (n : Lent) → (length (does m s (lower p v n) .slices .sheet) ≡ n .sheet) × (length (does m s (lower p v n) .slices .list) ≡ n .list)
-    pub looks : (n : Lent) → does m s (list n) .state ≡ s
+    pub list-unchanged : (n : Lent) → does m s (list n) .state ≡ s
 
--- THE RUNS: over every lawful meaning, so it is after every run of calls from the fresh state
+-- THE RUNS: over every lawful meaning, so it is after every run of calls from the fresh state.
 abbrev pub Runs-right : Type 0
 Runs-right = (m : Meaning) → Lawful m → (calls : List Call) → Right m (after m fresh calls)
 
--- The tables.
-
--- each module version once, ascending
-abbrev pub In-order : List ModuleVersion → Type 0
-In-order [] = Unit {0}
-In-order (x ∷ xs) = All (λ y. module-order x y ≡ Less) xs × In-order xs
+-- ---- the tables
 
 pub record Tidy (s : State) : Type 0 where
-  pub ascending : Ascending (s .rows)
-  pub in-order : In-order (s .exclusions)
+  pub rows-ascend : Ascending-rows (s .rows)
+  pub exclusions-ascend : Ascending-exclusions (s .exclusions)
   pub few-rows : length (s .rows) ≤ 256
   pub few-exclusions : length (s .exclusions) ≤ 32
 
@@ -129,6 +130,6 @@ In-bounds (exclude x) = Unit {0}
 In-bounds (lower p v n) = Unit {0}
 In-bounds (list n) = Unit {0}
 
--- THE TABLES: after every run whose manifests are in bounds, both tables are ascending and in bounds
-abbrev pub Tables-right : Type 0
-Tables-right = (m : Meaning) (calls : List Call) → All In-bounds calls → Tidy (after m fresh calls)
+-- THE STATE: after every run whose manifests are in bounds, both tables of the state are tables and in bounds.
+abbrev pub Tidy-right : Type 0
+Tidy-right = (m : Meaning) (calls : List Call) → All In-bounds calls → Tidy (after m fresh calls)

@@ -1,4 +1,5 @@
--- The slices that a call is lent, and what they hold after it. Assumes nothing.
+-- The two slices that list and lower are lent, for the sheet and for the list, and what they hold after the call: the places or rows written,
+-- and then blanks. Both must have 256 places at least. Assumes nothing.
 use mathlib.Core.Bool.{Bool, _&&_}
 use mathlib.Core.List.{List, _++_}
 use Prim.Native.Nat.{ℕ, _-_}
@@ -13,7 +14,7 @@ abbrev pub blank : ModuleVersion
 blank = record { path = codes "_"; version = codes "v0.0.0" }
 
 abbrev pub blank-place : Place
-blank-place = record { of = blank; from = 0 }
+blank-place = record { row = blank; from = 0 }
 
 -- how long the two slices are
 pub record Lent : Type 0 where
@@ -21,8 +22,8 @@ pub record Lent : Type 0 where
   pub list : ℕ
 
 -- both have 256 places at least
-abbrev pub wide : Lent → Bool
-wide n = leb 256 (n .sheet) && leb 256 (n .list)
+abbrev pub long-enough : Lent → Bool
+long-enough n = leb 256 (n .sheet) && leb 256 (n .list)
 
 -- what the two slices hold
 pub record Slices : Type 0 where
@@ -33,6 +34,6 @@ pub record Slices : Type 0 where
 abbrev pub filled : {A : Type 0} → A → ℕ → List A → List A
 filled none n xs = xs ++ replicate (n - length xs) none
 
--- of a sheet that would be longer, the first 256 places are written
+-- Of a sheet that needs a 257th place the first 256 are written.
 abbrev pub holding : Lent → List Place → List ModuleVersion → Slices
 holding n sheet list = record { sheet = filled blank-place (n .sheet) (take 256 sheet); list = filled blank (n .list) list }

@@ -1,66 +1,67 @@
--- What a source means, the law that a listing source keeps, and the exclude layer over a meaning. Assumes nothing.
+-- Sources and layers. What a source means is a function: each module version has a requirement list or a fault, and each path has a listing, its
+-- versions ascending, or a fault. A meaning is lawful if a listing that is no fault holds every version that has a requirement list.
+-- A layer is a source over others; a fault from below goes up with its depth one more, up to 255. The exclude layer has some module versions
+-- missing: it finds no list for them, leaves them out of the lists of others, and lists none of them. The fallback layer asks a second source
+-- where the first has a manifest missing, and only there; its listing is both listings joined, if both are found and together have at most 64
+-- versions. Assumes nothing.
 use mathlib.Core.Path.{_≡_}
 use mathlib.Core.Bool.{cond, not}
-use mathlib.Core.List.{List, [], _∷_}
+use mathlib.Core.List.{List, []}
 use Prim.Native.Nat.{_+_, min}
 use lib.Dec.{ltb}
 use lib.ListN.{length}
-use Rattle.std.specs.declared.cmp.Ordering.{Ordering}
-use Rattle.std.specs.declared.cmp.Ordering.the-variants.{Less, Equal, Greater}
-use Rattle.std.specs.shelf.Lists.{All, kept-by}
+use Rattle.std.specs.shelf.Lists.{kept-by}
 use Rattle.rules.specs.Orders.{Bytes}
-use Rattle.rules.specs.Versions.{version-order}
-use Rattle.rules.specs.Causes.{absent, too-many-to-list, is-missing, Fault}
-use Rattle.rules.specs.Names.{ModuleVersion, Below, has, _∈_}
+use Rattle.rules.specs.Causes.{missing, too-many-to-list, is-missing, Fault}
+use Rattle.rules.specs.Names.{ModuleVersion, at, has, _∈_}
+use Rattle.rules.specs.Rows.{Ascending-versions, joined-versions}
 
+-- what a question is answered
 pub data Answer (A : Type 0) : Type 0 where
-  given : A → Answer A
-  refused : Fault → Answer A
+  found : A → Answer A
+  fault : Fault → Answer A
 
 pub record Meaning : Type 0 where
-  -- the requirements of a module version
+  -- the requirement list of a module version
   pub requirements : ModuleVersion → Answer (List ModuleVersion)
   -- the versions of a path
   pub listing : Bytes → Answer (List Bytes)
 
--- each stands before all that follow: ascending, and each once
-abbrev pub Ascends : List Bytes → Type 0
-Ascends [] = Unit {0}
-Ascends (v ∷ vs) = All (Below v) vs × Ascends vs
-
-abbrev pub at : Bytes → Bytes → ModuleVersion
-at p v = record { path = p; version = v }
-
--- a listing that is no fault is ascending, and holds every version that has a requirement list
+-- A listing that is found ascends, and holds every version of the path that has a requirement list.
 abbrev pub Lawful : Meaning → Type 0
-Lawful m = (p : Bytes) (vs : List Bytes) → m .listing p ≡ given vs
-    → Ascends vs × ((v : Bytes) (rs : List ModuleVersion) → m .requirements (at p v) ≡ given rs → v ∈ vs)
+Lawful m = (p : Bytes) (vs : List Bytes) → m .listing p ≡ found vs
+    → Ascending-versions vs × ((v : Bytes) (rs : List ModuleVersion) → m .requirements (at p v) ≡ found rs → v ∈ vs)
 
--- f of what is given
+-- the members of what is found
+abbrev pub found-in : {A : Type 0} → Answer (List A) → List A
+found-in (found xs) = xs
+found-in (fault f) = []
+
+-- f of what is found
 abbrev pub narrowed : {A B : Type 0} → (A → B) → Answer A → Answer B
-narrowed f (given a) = given (f a)
-narrowed f (refused g) = refused g
+narrowed f (found a) = found (f a)
+narrowed f (fault g) = fault g
 
--- a fault from the layer below
+-- a fault from below, one layer up
 abbrev pub deeper : Fault → Fault
 deeper f = record { cause = f .cause; place = f .place; depth = min 255 (f .depth + 1) }
 
 abbrev pub passed-up : {A : Type 0} → Answer A → Answer A
-passed-up (given a) = given a
-passed-up (refused f) = refused (deeper f)
+passed-up (found a) = found a
+passed-up (fault f) = fault (deeper f)
 
--- the answer for an excluded module version
-abbrev pub not-there : Fault
-not-there = record { cause = absent; place = 0; depth = 0 }
+-- the fault of what is missing at this very source
+abbrev pub missing-here : Fault
+missing-here = record { cause = missing; place = 0; depth = 0 }
 
 -- those that are not among the exclusions
 abbrev pub included : List ModuleVersion → List ModuleVersion → List ModuleVersion
 included es = kept-by (λ y. not (has es y))
 
--- the exclude layer
+-- the exclude layer over a meaning
 abbrev pub excluding : List ModuleVersion → Meaning → Meaning
 excluding es m = record {
-  requirements = λ x. cond (has es x) (refused not-there) (passed-up (narrowed (included es) (m .requirements x)));
+  requirements = λ x. cond (has es x) (fault missing-here) (passed-up (narrowed (included es) (m .requirements x)));
   listing = λ p. passed-up (narrowed (kept-by (λ v. not (has es (at p v)))) (m .listing p));
 }
 
@@ -68,38 +69,25 @@ excluding es m = record {
 abbrev pub Layer-lawful : Type 0
 Layer-lawful = (m : Meaning) (es : List ModuleVersion) → Lawful m → Lawful (excluding es m)
 
--- the fallback layer: where the first says that it is missing, the second's answer stands
+-- where the first says that the manifest is missing, the second's answer stands
 abbrev pub or-else : {A : Type 0} → Answer A → Answer A → Answer A
-or-else (given a) b = given a
-or-else (refused f) b = cond (is-missing (f .cause)) b (refused f)
+or-else (found a) b = found a
+or-else (fault f) b = cond (is-missing (f .cause)) b (fault f)
 
--- ascending versions with v among them, each once
-abbrev pub placed-by : Ordering → Bytes → Bytes → List Bytes → List Bytes → List Bytes
-placed-by Less v w ws rest = v ∷ w ∷ ws
-placed-by Equal v w ws rest = w ∷ ws
-placed-by Greater v w ws rest = w ∷ rest
-
-abbrev pub placed : Bytes → List Bytes → List Bytes
-placed v [] = v ∷ []
-placed v (w ∷ ws) = placed-by (version-order v w) v w ws (placed v ws)
-
-abbrev pub merged : List Bytes → List Bytes → List Bytes
-merged [] ws = ws
-merged (v ∷ vs) ws = placed v (merged vs ws)
-
--- a listing must hold the versions of both, so it needs both
+-- A listing must hold the versions of both, so it needs both: a fault of the first is its fault, and then one of the second.
 abbrev pub both-listed : Answer (List Bytes) → Answer (List Bytes) → Answer (List Bytes)
-both-listed (refused f) b = refused f
-both-listed (given vs) (refused f) = refused f
-both-listed (given vs) (given ws) = given (merged vs ws)
+both-listed (fault f) b = fault f
+both-listed (found vs) (fault f) = fault f
+both-listed (found vs) (found ws) = found (joined-versions vs ws)
 
-abbrev pub too-many : Fault
-too-many = record { cause = too-many-to-list; place = 0; depth = 0 }
+abbrev pub over-64 : Fault
+over-64 = record { cause = too-many-to-list; place = 0; depth = 0 }
 
 abbrev pub at-most-64 : Answer (List Bytes) → Answer (List Bytes)
-at-most-64 (refused f) = refused f
-at-most-64 (given vs) = cond (ltb 64 (length vs)) (refused too-many) (given vs)
+at-most-64 (fault f) = fault f
+at-most-64 (found vs) = cond (ltb 64 (length vs)) (fault over-64) (found vs)
 
+-- the fallback layer over two meanings
 abbrev pub falling-back : Meaning → Meaning → Meaning
 falling-back a b = record {
   requirements = λ x. passed-up (or-else (a .requirements x) (b .requirements x));

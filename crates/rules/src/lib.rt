@@ -1,16 +1,25 @@
-// The theory alone: the contract of each function is a theorem of specs/, so that the crate is proved only if the theorem is.
+// The rules alone, with no code: specs/ has the definitions of the subject and what is claimed of them. The contract of each function here is
+// one such claim, so that the crate is proved only if the claim is. The functions do nothing.
 ghost use Rattle.rules.specs.Names.{Orders-right};
+ghost use Rattle.rules.specs.Tables.{Tables-right};
 ghost use Rattle.rules.specs.Sources.{Layer-lawful, Fallback-lawful};
 ghost use Rattle.rules.specs.Lists.{List-right};
 ghost use Rattle.rules.specs.Faults.{Refusal-right};
 ghost use Rattle.rules.specs.Lowers.{Lower-right, Kept-meant};
-ghost use Rattle.rules.specs.Runs.{Runs-right, Tables-right};
+ghost use Rattle.rules.specs.Runs.{Runs-right, Tidy-right};
 ghost use Rattle.rules.specs.Changes.{Changes-right};
 ghost use Rattle.rules.specs.Examples.{Examples};
 
-// The orders of paths and of versions are total, and what is no version is below every version.
+// The orders of paths, versions and module versions obey the laws; versions stand by precedence, and what is no version is below them all.
 pub fn orders_stand() -> u8
     ensures { λ _. ⌜ Orders-right ⌝ }
+{
+    0
+}
+
+// Lookup, insertion, joining and removal in tables of any items by any key, in any order that obeys the laws.
+pub fn tables_stand<T, K>() -> u8
+    ensures { λ _. ⌜ Tables-right T K ⌝ }
 {
     0
 }
@@ -29,28 +38,28 @@ pub fn fallback_stands() -> u8
     0
 }
 
-// A list is the one given exactly when it is fit and nowhere above any fit list.
+// A list is the one that a walk gives exactly when it is fit and nowhere above any list that is fit.
 pub fn list_stands() -> u8
     ensures { λ _. ⌜ List-right ⌝ }
 {
     0
 }
 
-// While at most 256 are reached, a list is refused exactly when some reached one has no requirement list, and a chain to it is shown.
+// While at most 256 are reached, a list is refused exactly when for some reached one no requirement list is to be had, and a chain to it is shown.
 pub fn refusal_stands() -> u8
     ensures { λ _. ⌜ Refusal-right ⌝ }
 {
     0
 }
 
-// The kept rows of a lower lie in a sound set, no sound set holds an old path above them, and a list right then shows just them.
+// The kept rows of a lower lie in a sound set, no sound set has an old path above them, and a list right then shows just them.
 pub fn lower_stands() -> u8
     ensures { λ _. ⌜ Lower-right ⌝ }
 {
     0
 }
 
-// The rows that a lower computes are the ones that it means.
+// The rows that a lower computes are the kept rows, and no others are.
 pub fn kept_stands() -> u8
     ensures { λ _. ⌜ Kept-meant ⌝ }
 {
@@ -64,9 +73,9 @@ pub fn runs_stand() -> u8
     0
 }
 
-// After every run both tables are ascending and in bounds.
-pub fn tables_stand() -> u8
-    ensures { λ _. ⌜ Tables-right ⌝ }
+// After every run both tables of the state are tables and in bounds.
+pub fn tidy_stands() -> u8
+    ensures { λ _. ⌜ Tidy-right ⌝ }
 {
     0
 }

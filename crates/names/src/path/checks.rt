@@ -1,17 +1,17 @@
 // Which texts are paths.
 ghost use mathlib.Core.Path.{_≡_};
 ghost use mathlib.Core.Bool.{true};
+ghost use lib.Chars.{codes};
 ghost use lib.Dec.{leb};
 ghost use lib.ListN.{length};
 ghost use Rattle.rules.specs.Paths.{element-byte, is-path};
-ghost use Rattle.std.specs.Options.{mapped};
-ghost use Rattle.names.specs.Checks.{checked};
+ghost use Rattle.std.specs.Options.{mapped, whenTrue};
 ghost use Rattle.names.specs.Paths.{plain-path-bytes, path-bytes};
 ghost use Rattle.names.specs.Scans.{at-edge, follows};
-use crate::text::Text;
-use crate::text::uses::LONGEST;
 use super::Path;
 use super::PlainPath;
+use crate::text::Text;
+use crate::text::uses::LONGEST;
 
 // A byte of an element: a letter, a digit, or one of four marks.
 fn is_element_byte(c: char) -> bool
@@ -65,11 +65,21 @@ pub fn is_path_text(text: &[u8]) -> bool
 impl PlainPath {
     // The plain path of these bytes, if there are at most 48.
     pub fn of(bytes: &[u8]) -> Option<PlainPath>
-        ensures { λ r. ⌜ mapped plain-path-bytes r ≡ checked (leb (length (now (bytes .entry))) 48) (now (bytes .entry)) ⌝ }
+        ensures { λ r. ⌜ mapped plain-path-bytes r ≡ whenTrue (leb (length (now (bytes .entry))) 48) (now (bytes .entry)) ⌝ }
     {
         match Text::of(bytes) {
             Some(text) => Some(PlainPath { text }),
             None => None,
+        }
+    }
+
+    // `_`, which stands where there is none.
+    pub fn blank() -> PlainPath
+        ensures { λ r. ⌜ plain-path-bytes r ≡ codes "_" ⌝ }
+    {
+        match PlainPath::of(b"_") {
+            Some(blank) => blank,
+            None => unreachable(),
         }
     }
 
@@ -81,7 +91,7 @@ impl PlainPath {
 
     // The path that this is, if it is well formed.
     pub fn check(&self) -> Option<Path>
-        ensures { λ r. ⌜ mapped (λ p. p .plain) r ≡ checked (is-path (plain-path-bytes (now (self .entry)))) (now (self .entry)) ⌝ }
+        ensures { λ r. ⌜ mapped (λ p. p .plain) r ≡ whenTrue (is-path (plain-path-bytes (now (self .entry)))) (now (self .entry)) ⌝ }
     {
         if !is_path_text(self.text.as_bytes()) {
             return None;
@@ -93,7 +103,7 @@ impl PlainPath {
 impl Path {
     // The path of these bytes, if they are one.
     pub fn check(bytes: &[u8]) -> Option<Path>
-        ensures { λ r. ⌜ mapped path-bytes r ≡ checked (is-path (now (bytes .entry))) (now (bytes .entry)) ⌝ }
+        ensures { λ r. ⌜ mapped path-bytes r ≡ whenTrue (is-path (now (bytes .entry))) (now (bytes .entry)) ⌝ }
     {
         match PlainPath::of(bytes) {
             Some(plain) => plain.check(),

@@ -1,10 +1,10 @@
 // The order of paths.
 ghost use Rattle.names.specs.Paths.{plain-path-order, path-value-order};
+use super::Path;
+use super::PlainPath;
 use crate::bytes::compare_bytes;
 use ordered::order::Ordered;
 use std::cmp::Ordering;
-use super::Path;
-use super::PlainPath;
 
 pub impl Ordered for PlainPath as PlainPathOrdered {
     ghost order = { plain-path-order };

@@ -2,9 +2,8 @@ ghost use mathlib.Core.Path.{_≡_};
 ghost use Prim.Native.Nat.{_≤_};
 ghost use lib.Dec.{leb};
 ghost use lib.ListN.{length, take};
-ghost use Rattle.std.specs.Options.{mapped};
+ghost use Rattle.std.specs.Options.{mapped, whenTrue};
 ghost use Rattle.std.specs.Orderings.{Decides};
-ghost use Rattle.names.specs.Checks.{checked};
 ghost use Rattle.names.specs.Padding.{Padded};
 ghost use Rattle.names.specs.Texts.{text-bytes};
 use super::Text;
@@ -28,12 +27,15 @@ fn padded(text: &[u8]) -> [u8; 48]
 impl Text {
     // The text of these bytes, if there are at most 48.
     pub fn of(bytes: &[u8]) -> Option<Text>
-        ensures { λ r. ⌜ mapped text-bytes r ≡ checked (leb (length (now (bytes .entry))) 48) (now (bytes .entry)) ⌝ }
+        ensures { λ r. ⌜ mapped text-bytes r ≡ whenTrue (leb (length (now (bytes .entry))) 48) (now (bytes .entry)) ⌝ }
     {
         if bytes.len() > LONGEST {
             return None;
         }
-        Some(Text { bytes: padded(bytes), len: bytes.len() })
+        Some(Text {
+            bytes: padded(bytes),
+            len: bytes.len(),
+        })
     }
 
     pub fn as_bytes(&self) -> &[u8]

@@ -1,5 +1,6 @@
-use Rattle.rules.proofs.Tidy.{tables-right}
+-- proofs/tables_stand/Answers.antt
+use Rattle.rules.proofs.Tables.{tables-right}
 use Rattle.rules.proofs.tables_stand.Needs as need
 
 pub returns : need.returns
-returns c = tables-right
+returns g c = tables-right _ _

@@ -1,0 +1,4 @@
+pub mod Cuts
+pub mod Kinds
+pub mod Releases
+pub mod Values
