@@ -2,7 +2,7 @@
 use lib.Chars.{codes}
 use Rattle.rules.specs.Orders.{Bytes}
 use Rattle.causes.specs.declared.cause.Cause.{Cause}
-use Rattle.causes.specs.declared.cause.Cause.the-variants.{TooLong, BadByte, WrongShape, BadPath, BadVersion, ModuleLine, RowTooMany, Absent, DamagedBuffer, TooManyToList, SliceTooShort, TooManyModuleVersions, TableFull, NothingToChange}
+use Rattle.causes.specs.declared.cause.Cause.the-variants.{TooLong, BadByte, WrongShape, BadPath, BadVersion, ModuleLine, RowTooMany, Missing, DamagedBuffer, TooManyToList, SliceTooShort, TooManyModuleVersions, TableFull, NothingToChange}
 
 abbrev pub wording : Cause → Bytes
 wording TooLong = codes "a text or buffer too long"
@@ -12,7 +12,7 @@ wording BadPath = codes "a bad path"
 wording BadVersion = codes "a bad version"
 wording ModuleLine = codes "a second module line, or none"
 wording RowTooMany = codes "a row too many"
-wording Absent = codes "no such manifest"
+wording Missing = codes "no such manifest"
 wording DamagedBuffer = codes "a damaged buffer"
 wording TooManyToList = codes "too many versions to list"
 wording SliceTooShort = codes "a slice too short"

@@ -17,8 +17,8 @@ pub enum Cause {
     // a second module line, or none
     ModuleLine,
     RowTooMany,
-    // of a source: it has no such manifest
-    Absent,
+    // of a source; missing: it has no such manifest
+    Missing,
     DamagedBuffer,
     TooManyToList,
     // of a call: it was lent too little
@@ -42,7 +42,7 @@ impl Cause {
             Cause::BadVersion => 5,
             Cause::ModuleLine => 6,
             Cause::RowTooMany => 7,
-            Cause::Absent => 8,
+            Cause::Missing => 8,
             Cause::DamagedBuffer => 9,
             Cause::TooManyToList => 10,
             Cause::SliceTooShort => 11,
@@ -64,7 +64,7 @@ impl Cause {
             Cause::BadVersion => "a bad version",
             Cause::ModuleLine => "a second module line, or none",
             Cause::RowTooMany => "a row too many",
-            Cause::Absent => "no such manifest",
+            Cause::Missing => "no such manifest",
             Cause::DamagedBuffer => "a damaged buffer",
             Cause::TooManyToList => "too many versions to list",
             Cause::SliceTooShort => "a slice too short",

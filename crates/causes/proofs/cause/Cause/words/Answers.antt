@@ -24,8 +24,8 @@ returns-in-ModuleLine c = record { value = sym (ap wording (c .in-ModuleLine .is
 pub returns-in-RowTooMany : need.returns-in-RowTooMany
 returns-in-RowTooMany c = record { value = sym (ap wording (c .in-RowTooMany .is)) }
 
-pub returns-in-Absent : need.returns-in-Absent
-returns-in-Absent c = record { value = sym (ap wording (c .in-Absent .is)) }
+pub returns-in-Missing : need.returns-in-Missing
+returns-in-Missing c = record { value = sym (ap wording (c .in-Missing .is)) }
 
 pub returns-in-DamagedBuffer : need.returns-in-DamagedBuffer
 returns-in-DamagedBuffer c = record { value = sym (ap wording (c .in-DamagedBuffer .is)) }
