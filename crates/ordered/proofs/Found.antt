@@ -1,9 +1,8 @@
--- What the place of a key says of a list: that it is in the list, and what a look-up, an entry and a removal at the key give. Assumes nothing.
+-- What a look-up, an entry and a removal give, by the place of the key. Assumes nothing.
 use mathlib.Core.Path.{_≡_, refl, sym, ap, _∙_}
 use mathlib.Core.List.{List, [], _∷_}
-use Prim.Native.Nat.{ℕ, _<_, _≤_}
-use native.Mathlib.Omega.{arith}
-use lib.ListN.{length, getD, take, set}
+use Prim.Native.Nat.{ℕ, _<_}
+use lib.ListN.{getD, take, set}
 use lib.Seq.{take-set-lt}
 use Rattle.std.specs.shelf.Lists.{inserted, removed}
 use Rattle.std.specs.Results.{Cases}
@@ -21,24 +20,11 @@ use Rattle.ordered.specs.Held.{give}
 use Rattle.ordered.specs.Places.{sought, sought-by}
 
 module _ {A K : Type 0} (key : A → K) (order : K → K → Ordering) where
-  -- the place is in the list, or right behind it
-  abbrev Within : List A → Result ℕ ℕ → Type 0
-  Within xs r = Cases r (λ i. i < length xs) (λ i. i ≤ length xs)
-
-  pub within : (k : K) (xs : List A) → Within xs (sought key order k xs)
-  within k [] = omega arith
-  within k (y ∷ ys) = go (order k (key y)) (sought key order k ys) (within k ys)
-    where
-      go : (o : Ordering) (r : Result ℕ ℕ) → Within ys r → Within (y ∷ ys) (sought-by key order o r)
-      go Less r h = omega arith
-      go Equal r h = omega arith
-      go Greater (Ok i) h = omega arith
-      go Greater (Err i) h = omega arith
-
+  -- the item there
   abbrev Looked : List A → Option A → Result ℕ ℕ → Type 0
   Looked xs o r = Cases r (λ i. (d : A) → o ≡ Some (getD xs i d)) (λ _. o ≡ None)
 
-  pub looked : (k : K) (xs : List A) → Looked xs (tables.lookup key order k xs) (sought key order k xs)
+  looked : (k : K) (xs : List A) → Looked xs (tables.lookup key order k xs) (sought key order k xs)
   looked k [] = refl
   looked k (y ∷ ys) = go (order k (key y)) (sought key order k ys) (looked k ys)
     where
@@ -49,10 +35,11 @@ module _ {A K : Type 0} (key : A → K) (order : K → K → Ordering) where
       go Greater (Ok i) h = h
       go Greater (Err i) h = h
 
+  -- the item there met, or the new one put there
   abbrev Put : (A → A → A) → A → List A → List A → Result ℕ ℕ → Type 0
   Put meet x xs zs r = Cases r (λ i. zs ≡ set xs i (meet x (getD xs i x))) (λ i. zs ≡ inserted xs i x)
 
-  pub put : (meet : A → A → A) (x : A) (xs : List A) → Put meet x xs (tables.entered key order meet x xs) (sought key order (key x) xs)
+  put : (meet : A → A → A) (x : A) (xs : List A) → Put meet x xs (tables.entered key order meet x xs) (sought key order (key x) xs)
   put meet x [] = refl
   put meet x (y ∷ ys) = go (order (key x) (key y)) (sought key order (key x) ys) (put meet x ys)
     where
@@ -63,10 +50,11 @@ module _ {A K : Type 0} (key : A → K) (order : K → K → Ordering) where
       go Greater (Ok i) h = ap (λ zs. y ∷ zs) h
       go Greater (Err i) h = ap (λ zs. y ∷ zs) h
 
+  -- the item there left out
   abbrev Gone : List A → List A → Result ℕ ℕ → Type 0
   Gone xs zs r = Cases r (λ i. zs ≡ removed xs i) (λ _. zs ≡ xs)
 
-  pub gone : (k : K) (xs : List A) → Gone xs (tables.removed key order k xs) (sought key order k xs)
+  gone : (k : K) (xs : List A) → Gone xs (tables.removed key order k xs) (sought key order k xs)
   gone k [] = refl
   gone k (y ∷ ys) = go (order k (key y)) (sought key order k ys) (gone k ys)
     where

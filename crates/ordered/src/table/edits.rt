@@ -8,12 +8,12 @@ ghost use Rattle.std.specs.Results.{isOk};
 ghost use Rattle.rules.specs.Tables.{keep, lookup, entered, removed};
 ghost use Rattle.ordered.specs.Ascents.{is-ascending};
 ghost use Rattle.ordered.specs.Held.{held, admitted, give};
-use crate::order::Keyed;
-use crate::order::Ordered;
 use super::NotInserted;
 use super::Table;
 use super::places::insert_at;
 use super::places::remove_at;
+use crate::order::Keyed;
+use crate::order::Ordered;
 
 impl<T: Copy, const N: usize> Table<T, N> {
     // Puts an item at the place of its key. Where it is refused nothing changes.

@@ -6,23 +6,29 @@ ghost use Rattle.std.specs.Options.{mapped, Cases as BySome};
 ghost use Rattle.rules.specs.Tables.{joined};
 ghost use Rattle.ordered.specs.Ascents.{is-ascending};
 ghost use Rattle.ordered.specs.Held.{held, fitting};
-use crate::order::Keyed;
-use crate::order::Ordered;
 use super::NotInserted;
 use super::Table;
+use crate::order::Keyed;
+use crate::order::Ordered;
 
 impl<T: Copy, const N: usize> Table<T, N> {
     // An empty table; `blank` stands in its places until they are taken.
     pub fn new(blank: T) -> Table<T, N>
         ensures value { λ r. ⌜ held r ≡ [] ⌝ }
     {
-        Table { items: [blank; N], count: 0 }
+        Table {
+            items: [blank; N],
+            count: 0,
+        }
     }
 
     pub fn copy(&self) -> Table<T, N>
         ensures value { λ r. ⌜ held r ≡ held (now (self .entry)) ⌝ }
     {
-        Table { items: self.items, count: self.count }
+        Table {
+            items: self.items,
+            count: self.count,
+        }
     }
 
     // This table with each item of `other` whose key it has not, unless that is more than N items.

@@ -7,10 +7,10 @@ ghost use Rattle.std.specs.Results.{Cases};
 ghost use Rattle.rules.specs.Tables.{lookup};
 ghost use Rattle.ordered.specs.Held.{held};
 ghost use Rattle.ordered.specs.Places.{sought};
+use super::Table;
 use crate::order::Keyed;
 use crate::order::Ordered;
 use crate::slices::search;
-use super::Table;
 
 impl<T, const N: usize> Table<T, N> {
     pub fn len(&self) -> usize

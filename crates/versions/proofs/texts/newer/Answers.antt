@@ -21,10 +21,12 @@ pub returns-in-Less : need.returns-in-Less
 returns-in-Less c =
     let a = c .args .a in
     let b = c .args .b in
-    sym (cond-true (is-newer (b .now) (a .now)) b a (newer-version (a .now) (b .now) (sym (c .if-not-is-version-2 .ensures tt)) (sym (c .if-not-is-version .ensures tt)) ∙ ap isLt (sym (c .in-Less .ensures tt))))
+    let e = newer-version (a .now) (b .now) (sym (c .if-not-is-version-2 .ensures tt)) (sym (c .if-not-is-version .ensures tt)) in
+    sym (cond-true (is-newer (b .now) (a .now)) b a (e ∙ ap isLt (sym (c .in-Less .ensures tt))))
 
 pub returns-in-rest : need.returns-in-rest
 returns-in-rest c =
     let a = c .args .a in
     let b = c .args .b in
-    sym (cond-false (is-newer (b .now) (a .now)) b a (newer-version (a .now) (b .now) (sym (c .if-not-is-version-2 .ensures tt)) (sym (c .if-not-is-version .ensures tt)) ∙ ap isLt (sym (c .precedence .ensures)) ∙ not-less (c .precedence .result) (c .in-rest .not-Less)))
+    let e = newer-version (a .now) (b .now) (sym (c .if-not-is-version-2 .ensures tt)) (sym (c .if-not-is-version .ensures tt)) in
+    sym (cond-false (is-newer (b .now) (a .now)) b a (e ∙ ap isLt (sym (c .precedence .ensures)) ∙ not-less (c .precedence .result) (c .in-rest .not-Less)))

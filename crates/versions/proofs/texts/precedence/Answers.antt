@@ -16,8 +16,10 @@ pub compare-pieces-requires : need.compare-pieces-requires
 compare-pieces-requires c κs =
     let p = c .next-piece-p .result in
     let q = c .next-piece-q .result in
-    let place = c .loop-unequal .place in
-    (sound-piece place (c .loop-unequal .left .now) (p .text .now) (p .end) (p .rest .now) (c .next-piece-p .ensures) (c .loop-unequal .inv .0), sound-piece place (c .loop-unequal .right .now) (q .text .now) (q .end) (q .rest .now) (c .next-piece-q .ensures) (c .loop-unequal .inv .1))
+    let place = c .loop-unequal .place in (
+      sound-piece place (c .loop-unequal .left .now) (p .text .now) (p .end) (p .rest .now) (c .next-piece-p .ensures) (c .loop-unequal .inv .0),
+      sound-piece place (c .loop-unequal .right .now) (q .text .now) (q .end) (q .rest .now) (c .next-piece-q .ensures) (c .loop-unequal .inv .1),
+    )
 
 pub returns-in-rest : need.returns-in-rest
 returns-in-rest c =

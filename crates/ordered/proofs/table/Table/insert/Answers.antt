@@ -52,7 +52,7 @@ returns-then-self g c =
     let order = g .K·Ordered .order in
     let e = missed g (need.at·returns-then-self g c .In-Err) in
     let full : ltb (length (held t)) (g .N) ≡ false =
-        le-ltb (length (held t)) (g .N) (omega (arith, length-take-le (t .count) (t .items) (omega arith))) in
+    le-ltb (length (held t)) (g .N) (omega (arith, length-take-le (t .count) (t .items) (omega arith))) in
     record {
       value = sym (ap₂ admitted (sym (missed-looked key order (t .items) (t .count) (key x) (c .in-Err .at) e)) full);
       after = λ q. cc;
@@ -68,9 +68,9 @@ returns-else-self g c =
     let order = g .K·Ordered .order in
     let e = missed g (need.at·returns-else-self g c .In-Err) in
     let room : ltb (length (held t)) (g .N) ≡ true =
-        lt-ltb (length (held t)) (g .N) (omega (arith, length-take-le (t .count) (t .items) (omega arith))) in
+    lt-ltb (length (held t)) (g .N) (omega (arith, length-take-le (t .count) (t .items) (omega arith))) in
     let put : take (t .count + 1) (c .insert-at .last .items) ≡ entered key order keep x (held t) =
-        c .insert-at .ensures .after ∙ missed-put key order (t .items) (t .count) x (c .in-Err .at) e in
+    c .insert-at .ensures .after ∙ missed-put key order (t .items) (t .count) x (c .in-Err .at) e in
     record {
       value = sym (ap₂ admitted (sym (missed-looked key order (t .items) (t .count) (key x) (c .in-Err .at) e)) room);
       after = λ _. put;

@@ -31,11 +31,11 @@ loop-item-again g c =
     let x = c .item-item .result in
     let zs = held (c .insert .last .self) in
     elim (c .match-insert .came) [
-      in-Ok w ↦ joined-more key order t u h i (c .loop-item .inv) x (c .loop-item-test .taken) (c .item-item .is) zs (w .in-Ok .ensures tt .after refl)
-    | in-Err-Present w ↦
-        let r = w .in-Err-Present .ensures tt in
-        let e : Err Present ≡ admitted (lookup key order (key x) h) (ltb (length h) (g .N)) = cc (r .value) in
-        joined-same key order t u h i (c .loop-item .inv) x (c .loop-item-test .taken) (c .item-item .is) zs (ltb (length h) (g .N)) (ap held (r .refused refl)) e
+      | in-Ok w ↦ joined-more key order t u h i (c .loop-item .inv) x (c .loop-item-test .taken) (c .item-item .is) zs (w .in-Ok .ensures tt .after refl)
+      | in-Err-Present w ↦
+          let r = w .in-Err-Present .ensures tt in
+          let e : Err Present ≡ admitted (lookup key order (key x) h) (ltb (length h) (g .N)) = cc (r .value) in
+          joined-same key order t u h i (c .loop-item .inv) x (c .loop-item-test .taken) (c .item-item .is) zs (ltb (length h) (g .N)) (ap held (r .refused refl)) e
     ]
 
 pub returns-in-Err-Full : need.returns-in-Err-Full

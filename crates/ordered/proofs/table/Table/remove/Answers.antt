@@ -23,7 +23,7 @@ returns-in-Ok g c =
     let order = g .K·Ordered .order in
     let e = c .in-Ok .ensures tt in
     let left : take (t .count - 1) (c .remove-at .last .items) ≡ tables.removed key order k (held t) =
-        c .remove-at .ensures .after ∙ found-gone key order (t .items) (t .count) k (c .in-Ok .at) (e .value) in
+    c .remove-at .ensures .after ∙ found-gone key order (t .items) (t .count) k (c .in-Ok .at) (e .value) in
     record {
       value = found-looked key order (t .items) (t .count) k (c .in-Ok .at) (e .value) (e .items) (c .index-self-at .result);
       after = left;

@@ -24,7 +24,7 @@ returns-in-Ok g c =
     let h = c .in-Ok .ensures tt in
     let e = by-key key order (held t) (Ok (c .in-Ok .at)) (c .key .result .now) (key x) (c .key .ensures) (h .value) in
     let put : take (t .count) (set (t .items) (c .in-Ok .at) x) ≡ entered key order give x (held t) =
-        found-put key order (t .items) (t .count) x (c .in-Ok .at) e (h .items) in
+    found-put key order (t .items) (t .count) x (c .in-Ok .at) e (h .items) in
     record {
       value = found-looked key order (t .items) (t .count) (key x) (c .in-Ok .at) e (h .items) (c .index-self-at .result);
       after = λ _. put;
