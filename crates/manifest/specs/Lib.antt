@@ -1,0 +1,4 @@
+pub mod Owners
+pub mod Holds
+pub mod Rows
+pub mod Views
