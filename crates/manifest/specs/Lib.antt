@@ -1,4 +1,5 @@
 pub mod Owners
 pub mod Holds
 pub mod Rows
+pub mod Mains
 pub mod Views

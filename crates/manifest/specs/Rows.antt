@@ -30,5 +30,17 @@ abbrev pub count-told : List Row → Result ℕ Cause → Result (List ModuleVer
 count-told rows (Ok n) = Ok (names-read n rows)
 count-told rows (Err c) = Err (cause-of c)
 
+-- at most so many rows
+abbrev pub more-rows : ℕ → List ModuleVersion → ModuleVersion → Result (List ModuleVersion) R.Cause
+more-rows most xs x = cond (ltb (length xs) most) (Ok (xs ++ x ∷ [])) (Err R.row-too-many)
+
 abbrev pub row-put : ℕ → List ModuleVersion → Row → Result (List ModuleVersion) R.Cause
-row-put most xs row = cond (ltb (length xs) most) (Ok (xs ++ row-names row ∷ [])) (Err R.row-too-many)
+row-put most xs row = more-rows most xs (row-names row)
+
+-- a row is put behind others once it is read
+abbrev pub put-read : ℕ → List ModuleVersion → Result ModuleVersion R.Cause → Result (List ModuleVersion) R.Cause
+put-read most xs (Ok x) = more-rows most xs x
+put-read most xs (Err c) = Err c
+
+abbrev pub row-added : ℕ → List ModuleVersion → Bytes → Bytes → Result (List ModuleVersion) R.Cause
+row-added most xs m v = put-read most xs (row-read m v)

@@ -1,9 +1,13 @@
 -- What the code has read so far, told as the progress of the rules. Assumes nothing.
+use mathlib.Core.Bool.{cond}
 use mathlib.Core.List.{List}
 use Prim.Native.Nat.{ℕ}
 use Rattle.std.specs.Options.{mapped}
 use Rattle.std.specs.declared.result.Result.{Result}
 use Rattle.std.specs.declared.result.Result.the-variants.{Ok, Err}
+use Rattle.rules.specs.Orders.{Bytes}
+use Rattle.rules.specs.Texts.{every}
+use Rattle.rules.specs.Lines.{words}
 use Rattle.rules.specs.Causes as R
 use Rattle.rules.specs.Manifests as M
 use Rattle.names.specs.Paths.{path-bytes}
@@ -26,3 +30,7 @@ view required excluded p = record {
 abbrev pub viewed : List Row → List Row → Result Progress Cause → Result M.Progress R.Cause
 viewed required excluded (Ok p) = Ok (view required excluded p)
 viewed required excluded (Err c) = Err (cause-of c)
+
+-- one line more, of which the comment is gone
+abbrev pub code-read : ℕ → M.Progress → Bytes → Result M.Progress R.Cause
+code-read most p c = cond (every M.good-byte c) (M.shaped most p (M.directive (p .block) (words c))) (Err R.bad-byte)

@@ -5,7 +5,7 @@ ghost use lib.ListN.{length, replicate};
 ghost use Rattle.std.specs.Vec.{made};
 ghost use Rattle.rules.specs.Slices.{blank};
 ghost use Rattle.manifest.specs.Holds.{names-in, names-read, Holds};
-ghost use Rattle.manifest.specs.Rows.{row-told, row-read, count-told, row-put};
+ghost use Rattle.manifest.specs.Rows.{row-told, row-read, count-told, row-put, row-added};
 use causes::cause::Cause;
 use modules::rows::Row;
 use names::path::Path;
@@ -44,4 +44,16 @@ pub(crate) fn put(rows: &mut [Row], count: usize, most: usize, row: Row) -> Resu
     }
     rows[count] = row;
     Ok(count + 1)
+}
+
+// Reads one row more: it is checked first, and then there must be room for it.
+pub(crate) fn add_row(rows: &mut [Row], count: usize, most: usize, path: &[u8], version: &[u8]) -> Result<usize, Cause>
+    requires { ⌜ Holds most count (now rows) ⌝ }
+    ensures value { λ r. ⌜ count-told (now (rows .exit)) r ≡ row-added most (names-read count (now (rows .entry))) (now (path .entry)) (now (version .entry)) ⌝ }
+    ensures items { λ r. ⌜ made r (λ n. Holds most n (now (rows .exit))) ⌝ }
+{
+    match read_row(path, version) {
+        Ok(row) => put(rows, count, most, row),
+        Err(cause) => Err(cause),
+    }
 }
