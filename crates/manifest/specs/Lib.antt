@@ -3,3 +3,4 @@ pub mod Holds
 pub mod Rows
 pub mod Mains
 pub mod Views
+pub mod Outcomes

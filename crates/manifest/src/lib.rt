@@ -2,4 +2,5 @@
 // line. The text is lent and read in one pass, line by line; the rows go into two slices that are lent too.
 pub mod kinds;
 mod lines;
+pub mod reading;
 mod rows;
