@@ -55,3 +55,40 @@ fn finish(progress: Progress) -> Result<Manifest, Refusal>
         None => Err(Refusal::at(Cause::ModuleLine, 0)),
     }
 }
+
+// Reads a text that is not too long into slices that are long enough.
+fn read_text(most: usize, text: &[u8], required: &mut [Row], excluded: &mut [Row]) -> Result<Manifest, Refusal>
+    requires { ⌜ Holds most 0 (now required) ⌝ ∗ ⌜ Holds 32 0 (now excluded) ⌝ }
+    ensures value { λ r. ⌜ outcome r ≡ counted (lines-read most 0 unbegun (lines-of (now (text .entry)))) ⌝ }
+    ensures items { λ r. ⌜ made r (λ _. (names-in (now (required .exit)) ≡ filled blank (length (now (required .exit))) (require-rows (lines-read most 0 unbegun (lines-of (now (text .entry)))))) × (names-in (now (excluded .exit)) ≡ filled blank (length (now (excluded .exit))) (exclude-rows (lines-read most 0 unbegun (lines-of (now (text .entry))))))) ⌝ }
+{
+    match read_lines(most, text, required, excluded) {
+        Ok(progress) => finish(progress),
+        Err(refusal) => Err(refusal),
+    }
+}
+
+// Reads a manifest: its module path and how many rows it has, or why and at which line it is refused. The rows stand in the two slices in their
+// order, and blanks behind them; where the manifest is refused both are blank.
+pub fn read(text: &[u8], owner: Owner, required: &mut [Row], excluded: &mut [Row]) -> Result<Manifest, Refusal>
+    ensures value { λ r. ⌜ outcome r ≡ counted (asked (most-rows owner) (length (now (required .entry))) (length (now (excluded .entry))) (now (text .entry))) ⌝ }
+    ensures items { λ _. ⌜ (names-in (now (required .exit)) ≡ filled blank (length (now (required .entry))) (require-rows (asked (most-rows owner) (length (now (required .entry))) (length (now (excluded .entry))) (now (text .entry))))) × (names-in (now (excluded .exit)) ≡ filled blank (length (now (excluded .entry))) (exclude-rows (asked (most-rows owner) (length (now (required .entry))) (length (now (excluded .entry))) (now (text .entry))))) ⌝ }
+{
+    let most = owner.most();
+    blank_all(required);
+    blank_all(excluded);
+    if required.len() < most || excluded.len() < MOST_EXCLUDED {
+        return Err(Refusal::at(Cause::SliceTooShort, 0));
+    }
+    if text.len() > LONGEST {
+        return Err(Refusal::at(Cause::TooLong, 0));
+    }
+    match read_text(most, text, required, excluded) {
+        Ok(manifest) => Ok(manifest),
+        Err(refusal) => {
+            blank_all(required);
+            blank_all(excluded);
+            Err(refusal)
+        }
+    }
+}
