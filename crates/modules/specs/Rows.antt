@@ -2,6 +2,7 @@
 use Rattle.std.specs.declared.cmp.Ordering.{Ordering}
 use Rattle.rules.specs.Names.{ModuleVersion as Names, module-order}
 use Rattle.names.specs.Paths.{plain-path-bytes}
+use Rattle.names.specs.declared.path.PlainPath.{PlainPath}
 use Rattle.versions.specs.Values.{plain-version-bytes}
 use Rattle.modules.specs.declared.rows.Row.{Row}
 use Rattle.modules.specs.declared.rows.ModuleVersion.{ModuleVersion}
@@ -23,3 +24,7 @@ row-order r s = module-order (row-names r) (row-names s)
 
 abbrev pub module-version-order : ModuleVersion → ModuleVersion → Ordering
 module-version-order m n = row-order (row-of m) (row-of n)
+
+-- the key of a requirement row
+abbrev pub row-path : Row → PlainPath
+row-path r = r .path

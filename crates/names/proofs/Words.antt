@@ -18,12 +18,12 @@ by-says a b Less h = grind (arith, tells)
 by-says a b Equal h = grind (arith, tells)
 by-says a b Greater h = grind (arith, tells)
 
-pub cmp-says : (xs ys : List ℕ) (r : Ordering) → Lex By xs ys r → r ≡ dictionary xs ys
+pub cmp-dictionary : (xs ys : List ℕ) (r : Ordering) → Lex By xs ys r → r ≡ dictionary xs ys
 unfolding lexical
-cmp-says [] [] r h = h
-cmp-says [] (y ∷ ys) r h = h
-cmp-says (x ∷ xs) [] r h = h
-cmp-says (x ∷ xs) (y ∷ ys) r h = told (h .0) (cmp-says xs ys r) (h .2) ∙ ap (λ k. thenBy k (dictionary xs ys)) (by-says x y (h .0) (h .1))
+cmp-dictionary [] [] r h = h
+cmp-dictionary [] (y ∷ ys) r h = h
+cmp-dictionary (x ∷ xs) [] r h = h
+cmp-dictionary (x ∷ xs) (y ∷ ys) r h = told (h .0) (cmp-dictionary xs ys r) (h .2) ∙ ap (λ k. thenBy k (dictionary xs ys)) (by-says x y (h .0) (h .1))
   where
     told : (k : Ordering) → (Lex By xs ys r → r ≡ dictionary xs ys) → Ranked k (r ≡ Less) (Lex By xs ys r) (r ≡ Greater) → r ≡ thenBy k (dictionary xs ys)
     told Less f e = e

@@ -10,8 +10,8 @@ use Rattle.std.proofs.shelf.Tests.{and-from}
 use Rattle.rules.specs.Orders.{Bytes}
 use Rattle.rules.specs.Texts.{dash, dot, every}
 use Rattle.rules.proofs.Precedence.{every-head}
-use Rattle.versions.specs.declared.pieces.Place.{Place}
-use Rattle.versions.specs.declared.pieces.Place.the-variants.{Numbers}
+use Rattle.versions.specs.declared.pieces.Part.{Part}
+use Rattle.versions.specs.declared.pieces.Part.the-variants.{Numbers}
 use Rattle.versions.specs.declared.pieces.End.{End}
 use Rattle.versions.specs.declared.pieces.End.the-variants.{Dash, Last, Dot}
 use Rattle.versions.specs.Cuts.{within, Begins}
@@ -38,21 +38,21 @@ cut-at xs i b l e =
     from-zero = omega arith
 
 -- a text begins with what stands before an index
-abbrev pub Begins-at : Place → Bytes → ℕ → End → Type 0
-Begins-at place text i e = Begins place text (take (i - 0) text) e (take (length text - (i + 1)) (drop (i + 1) text))
+abbrev pub Begins-at : Part → Bytes → ℕ → End → Type 0
+Begins-at part text i e = Begins part text (take (i - 0) text) e (take (length text - (i + 1)) (drop (i + 1) text))
 
-module _ (place : Place) (text : Bytes) (i : ℕ) (l : i < length text) (t : every (within place) (take i text) ≡ true) where
-  inside : every (within place) (take (i - 0) text) ≡ true
-  inside = ap (λ n. every (within place) (take n text)) from-zero ∙ t
+module _ (part : Part) (text : Bytes) (i : ℕ) (l : i < length text) (t : every (within part) (take i text) ≡ true) where
+  inside : every (within part) (take (i - 0) text) ≡ true
+  inside = ap (λ n. every (within part) (take n text)) from-zero ∙ t
     where
       from-zero : i - 0 ≡ i
       from-zero = omega arith
 
-  pub begins-dot : getD text i 0 ≡ dot → Begins-at place text i Dot
+  pub begins-dot : getD text i 0 ≡ dot → Begins-at part text i Dot
   begins-dot b = record { whole = cut-at text i dot l b; inside = inside; so = tt }
 
-  pub begins-dash : getD text i 0 ≡ dash → place ≡ Numbers → Begins-at place text i Dash
+  pub begins-dash : getD text i 0 ≡ dash → part ≡ Numbers → Begins-at part text i Dash
   begins-dash b n = record { whole = cut-at text i dash l b; inside = inside; so = rw n tt }
 
-pub begins-last : (place : Place) (text : Bytes) → every (within place) text ≡ true → Begins place text text Last []
-begins-last place text t = record { whole = sym (append-nil text); inside = t; so = refl }
+pub begins-last : (part : Part) (text : Bytes) → every (within part) text ≡ true → Begins part text text Last []
+begins-last part text t = record { whole = sym (append-nil text); inside = t; so = refl }

@@ -1,4 +1,4 @@
--- Numbers by their digits, and bytes as the standard library compares them. Assumes nothing.
+-- Numbers by their digits. Assumes nothing.
 use mathlib.Core.Path.{_≡_, refl, sym, ap, _∙_}
 use mathlib.Core.Bool.{true}
 use mathlib.Core.List.{[], _∷_}
@@ -6,7 +6,6 @@ use mathlib.Core.Logic.{_⊎_, inl, inr}
 use Prim.Native.Nat.{ℕ, _+_, _*_, _-_, _<_}
 use native.Mathlib.Omega.{arith}
 use lib.ListN.{length}
-use Rattle.std.specs.Lexical.{Lex}
 use Rattle.std.specs.Orderings.{Ranked, thenBy}
 use Rattle.std.specs.declared.cmp.Ordering.{Ordering}
 use Rattle.std.specs.declared.cmp.Ordering.the-variants.{Less, Equal, Greater}
@@ -25,19 +24,6 @@ above m n l = grind (arith, tells)
 
 as-high : (m n : ℕ) → m ≡ n → number-order m n ≡ Equal
 as-high m n e = grind (arith, tells)
-
--- what `cmp` answers of two slices of bytes
-pub cmp-dictionary : (a b : Bytes) (r : Ordering) → Lex (λ x y o. Ranked o (x < y) (x ≡ y) (y < x)) a b r → r ≡ dictionary a b
-unfolding lexical
-cmp-dictionary [] [] r h = h
-cmp-dictionary [] (y ∷ ys) r h = h
-cmp-dictionary (x ∷ xs) [] r h = h
-cmp-dictionary (x ∷ xs) (y ∷ ys) r (o, first, then) = go o first then (cmp-dictionary xs ys r)
-  where
-    go : {P : Type 0} (o : Ordering) → Ranked o (x < y) (x ≡ y) (y < x) → Ranked o (r ≡ Less) P (r ≡ Greater) → (P → r ≡ dictionary xs ys) → r ≡ thenBy (number-order x y) (dictionary xs ys)
-    go Less l e rest = e ∙ ap (λ k. thenBy k (dictionary xs ys)) (sym (below x y l))
-    go Equal q e rest = rest e ∙ ap (λ k. thenBy k (dictionary xs ys)) (sym (as-high x y q))
-    go Greater l e rest = e ∙ ap (λ k. thenBy k (dictionary xs ys)) (sym (above x y l))
 
 -- As many digits stand by their bytes. In front of them stand digits of the values m and k, the last of which are d and e.
 by-digit : (m k d e : ℕ) (ds es : Bytes) → every digit ds ≡ true → every digit es ≡ true → length ds ≡ length es → (d ≡ e → m ≡ k) → (d < e → m < k) → (e < d → k < m)

@@ -15,8 +15,8 @@ use Rattle.rules.specs.Texts.{dot, every, pieces}
 use Rattle.rules.specs.Versions.{is-number, is-word, is-identifier, before-dash, behind-dash, is-release, is-version, value, identifier, parts-behind, parts, identifier-order, identifiers-order, precedence, version-order}
 use Rattle.rules.proofs.Order.{then-equal}
 use Rattle.rules.proofs.Precedence.{every-head, pieces-some, precede}
-use Rattle.versions.specs.declared.pieces.Place.{Place}
-use Rattle.versions.specs.declared.pieces.Place.the-variants.{Numbers, Identifiers}
+use Rattle.versions.specs.declared.pieces.Part.{Part}
+use Rattle.versions.specs.declared.pieces.Part.the-variants.{Numbers, Identifiers}
 use Rattle.versions.specs.declared.pieces.End.{End}
 use Rattle.versions.specs.declared.pieces.End.the-variants.{Dash, Last, Dot}
 use Rattle.versions.specs.contracts.pieces.EndOrd.the-impl.{ghosts}
@@ -25,19 +25,19 @@ use Rattle.versions.proofs.Spelling.{as-number}
 use Rattle.versions.proofs.Steps.{numbers-behind, identifiers-behind, more-behind, numbers-first, identifiers-first, more-first}
 
 -- what is left of two versions stands so
-abbrev pub order-left : Place → Bytes → Bytes → Ordering
+abbrev pub order-left : Part → Bytes → Bytes → Ordering
 order-left Numbers a b = precedence (parts-behind a) (parts-behind b)
 order-left Identifiers a b = lexical identifier-order (map identifier (pieces dot a)) (map identifier (pieces dot b))
 
 -- all that is left are numbers and identifiers
-abbrev pub sound : Place → Bytes → Bool
+abbrev pub sound : Part → Bytes → Bool
 sound Numbers bs = every is-number (pieces dot (before-dash bs)) && every is-identifier (behind-dash bs)
 sound Identifiers bs = every is-identifier (pieces dot bs)
 
-abbrev pub place-behind : Place → End → Place
-place-behind place Dash = Identifiers
-place-behind place Last = place
-place-behind place Dot = place
+abbrev pub part-behind : Part → End → Part
+part-behind part Dash = Identifiers
+part-behind part Last = part
+part-behind part Dot = part
 
 abbrev end-order : End → End → Ordering
 end-order Dash Dash = Equal
@@ -51,10 +51,10 @@ end-order Dot Last = Greater
 end-order Dot Dot = Equal
 
 -- behind pieces that end alike
-abbrev pub order-behind : Place → End → Bytes → Bytes → Ordering
-order-behind place Dash r s = order-left Identifiers r s
-order-behind place Last r s = Equal
-order-behind place Dot r s = order-left place r s
+abbrev pub order-behind : Part → End → Bytes → Bytes → Ordering
+order-behind part Dash r s = order-left Identifiers r s
+order-behind part Last r s = Equal
+order-behind part Dot r s = order-left part r s
 
 then-on : (o p q : Ordering) → thenBy (thenBy o p) q ≡ thenBy o (thenBy p q)
 then-on Less p q = refl
@@ -73,21 +73,21 @@ module _ (text p : Bytes) (e : End) (rest : Bytes) where
   sound-more : Begins Identifiers text p e rest → sound Identifiers text ≡ true → (is-identifier p ≡ true) × (every is-identifier (more-behind e rest) ≡ true)
   sound-more h t = every-head is-identifier p (more-behind e rest) (ap (every is-identifier) (sym (more-first text p e rest h)) ∙ t)
 
-pub sound-piece : (place : Place) (text p : Bytes) (e : End) (rest : Bytes) → Begins place text p e rest → sound place text ≡ true → is-identifier p ≡ true
+pub sound-piece : (part : Part) (text p : Bytes) (e : End) (rest : Bytes) → Begins part text p e rest → sound part text ≡ true → is-identifier p ≡ true
 sound-piece Numbers text p e rest h t = or-left (is-number p) (is-word p) (sound-numbers text p e rest h t .0)
 sound-piece Identifiers text p e rest h t = sound-more text p e rest h t .0
 
-pub sound-behind : (place : Place) (text p : Bytes) (e : End) (rest : Bytes) → Begins place text p e rest → sound place text ≡ true → (e ≡ Last → ⊥) → sound (place-behind place e) rest ≡ true
+pub sound-behind : (part : Part) (text p : Bytes) (e : End) (rest : Bytes) → Begins part text p e rest → sound part text ≡ true → (e ≡ Last → ⊥) → sound (part-behind part e) rest ≡ true
 sound-behind Numbers text p e rest h t goes-on = go e goes-on (sound-numbers text p e rest h t)
   where
     go : (f : End) → (f ≡ Last → ⊥) → (is-number p ≡ true) × (every is-number (numbers-behind f rest) ≡ true) × (every is-identifier (identifiers-behind f rest) ≡ true)
-        → sound (place-behind Numbers f) rest ≡ true
+        → sound (part-behind Numbers f) rest ≡ true
     go Dash on (n, ns, is) = is
     go Last on (n, ns, is) = absurd (on refl)
     go Dot on (n, ns, is) = and-from (every is-number (pieces dot (before-dash rest))) (every is-identifier (behind-dash rest)) ns is
 sound-behind Identifiers text p e rest h t goes-on = go e goes-on (h .so) (sound-more text p e rest h t .1)
   where
-    go : (f : End) → (f ≡ Last → ⊥) → Ends-so Identifiers f rest → every is-identifier (more-behind f rest) ≡ true → sound (place-behind Identifiers f) rest ≡ true
+    go : (f : End) → (f ≡ Last → ⊥) → Ends-so Identifiers f rest → every is-identifier (more-behind f rest) ≡ true → sound (part-behind Identifiers f) rest ≡ true
     go Dash on so is = absurd so
     go Last on so is = absurd (on refl)
     go Dot on so is = is
@@ -162,9 +162,9 @@ behind-identifiers Dot Dot r s x y = refl
 -- ---- one piece on
 
 -- The first pieces decide, then what ends them, then what is left.
-order-first : (place : Place) (a p : Bytes) (e : End) (r b q : Bytes) (f : End) (s : Bytes)
-    → Begins place a p e r → Begins place b q f s → sound place a ≡ true → sound place b ≡ true
-    → order-left place a b ≡ thenBy (thenBy (identifier-order (identifier p) (identifier q)) (end-order e f)) (order-behind place e r s)
+order-first : (part : Part) (a p : Bytes) (e : End) (r b q : Bytes) (f : End) (s : Bytes)
+    → Begins part a p e r → Begins part b q f s → sound part a ≡ true → sound part b ≡ true
+    → order-left part a b ≡ thenBy (thenBy (identifier-order (identifier p) (identifier q)) (end-order e f)) (order-behind part e r s)
 unfolding order-numbers lexical
 order-first Numbers a p e r b q f s g h t u =
     (λ i. order-numbers (numbers-first a p e r g i) (identifiers-first a p e r g i) (numbers-first b q f s h i) (identifiers-first b q f s h i))
@@ -201,39 +201,39 @@ end-same Dot Last h = cc
 end-same Dot Dot h = refl
 
 -- One turn over both texts: i says how their first pieces stand, j what ends those, k both, and w how the whole versions stand.
-module _ {place : Place} {a p : Bytes} {e : End} {r b q : Bytes} {f : End} {s : Bytes} {i k w : Ordering} (j : Ordering)
-    (g : Begins place a p e r) (h : Begins place b q f s)
-    (inv : (sound place a ≡ true) × (sound place b ≡ true) × (order-left place a b ≡ w))
+module _ {part : Part} {a p : Bytes} {e : End} {r b q : Bytes} {f : End} {s : Bytes} {i k w : Ordering} (j : Ordering)
+    (g : Begins part a p e r) (h : Begins part b q f s)
+    (inv : (sound part a ≡ true) × (sound part b ≡ true) × (order-left part a b ≡ w))
     (by-piece : i ≡ identifier-order (identifier p) (identifier q)) (by-end : ghosts .orders e f j) (by-both : k ≡ thenBy i j) where
   told : k ≡ thenBy (identifier-order (identifier p) (identifier q)) (end-order e f)
   told = by-both ∙ ap₂ thenBy by-piece (cmp-ends e f j by-end)
 
-  whole : thenBy k (order-behind place e r s) ≡ w
-  whole = ap (λ o. thenBy o (order-behind place e r s)) told ∙ sym (order-first place a p e r b q f s g h (inv .0) (inv .1)) ∙ inv .2
+  whole : thenBy k (order-behind part e r s) ≡ w
+  whole = ap (λ o. thenBy o (order-behind part e r s)) told ∙ sym (order-first part a p e r b q f s g h (inv .0) (inv .1)) ∙ inv .2
 
   pub turn-decides : (k ≡ Equal → ⊥) → k ≡ w
   turn-decides n = go k n ∙ whole
     where
-      go : (o : Ordering) → (o ≡ Equal → ⊥) → o ≡ thenBy o (order-behind place e r s)
+      go : (o : Ordering) → (o ≡ Equal → ⊥) → o ≡ thenBy o (order-behind part e r s)
       go Less m = refl
       go Equal m = absurd (m refl)
       go Greater m = refl
 
-  left : k ≡ Equal → order-behind place e r s ≡ w
-  left eq = ap (λ o. thenBy o (order-behind place e r s)) (sym eq) ∙ whole
+  left : k ≡ Equal → order-behind part e r s ≡ w
+  left eq = ap (λ o. thenBy o (order-behind part e r s)) (sym eq) ∙ whole
 
   pub turn-ends : k ≡ Equal → e ≡ Last → Equal ≡ w
-  turn-ends eq over = ap (λ d. order-behind place d r s) (sym over) ∙ left eq
+  turn-ends eq over = ap (λ d. order-behind part d r s) (sym over) ∙ left eq
 
-  pub turn-again : k ≡ Equal → (e ≡ Last → ⊥) → (next : Place) → next ≡ place-behind place e
+  pub turn-again : k ≡ Equal → (e ≡ Last → ⊥) → (next : Part) → next ≡ part-behind part e
       → (sound next r ≡ true) × (sound next s ≡ true) × (order-left next r s ≡ w)
   turn-again eq on next n =
-      (ap (λ x. sound x r) n ∙ sound-behind place a p e r g (inv .0) on, ap (λ x. sound x s) (n ∙ ap (place-behind place) same) ∙ sound-behind place b q f s h (inv .1) (λ over. on (same ∙ over)), ap (λ x. order-left x r s) n ∙ go e on ∙ left eq)
+      (ap (λ x. sound x r) n ∙ sound-behind part a p e r g (inv .0) on, ap (λ x. sound x s) (n ∙ ap (part-behind part) same) ∙ sound-behind part b q f s h (inv .1) (λ over. on (same ∙ over)), ap (λ x. order-left x r s) n ∙ go e on ∙ left eq)
     where
       same : e ≡ f
       same = end-same e f (then-equal (identifier-order (identifier p) (identifier q)) (end-order e f) (sym told ∙ eq) .1)
 
-      go : (d : End) → (d ≡ Last → ⊥) → order-left (place-behind place d) r s ≡ order-behind place d r s
+      go : (d : End) → (d ≡ Last → ⊥) → order-left (part-behind part d) r s ≡ order-behind part d r s
       go Dash m = refl
       go Last m = absurd (m refl)
       go Dot m = refl

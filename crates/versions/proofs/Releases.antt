@@ -13,7 +13,7 @@ use Rattle.rules.specs.Orders.{Bytes}
 use Rattle.rules.specs.Texts.{dot, every, pieces}
 use Rattle.rules.specs.Versions.{is-number, is-identifier, before-dash, behind-dash, is-release, is-version}
 use Rattle.rules.proofs.Precedence.{pieces-some}
-use Rattle.versions.specs.declared.pieces.Place.the-variants.{Numbers, Identifiers}
+use Rattle.versions.specs.declared.pieces.Part.the-variants.{Numbers, Identifiers}
 use Rattle.versions.specs.declared.pieces.End.{End}
 use Rattle.versions.specs.declared.pieces.End.the-variants.{Dash, Last, Dot}
 use Rattle.versions.specs.Cuts.{Begins}

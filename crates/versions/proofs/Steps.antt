@@ -13,8 +13,8 @@ use Rattle.rules.specs.Orders.{Bytes}
 use Rattle.rules.specs.Texts.{dash, dot, every, begun, pieces}
 use Rattle.rules.specs.Versions.{before-dash, behind-dash}
 use Rattle.rules.proofs.Precedence.{every-head}
-use Rattle.versions.specs.declared.pieces.Place.{Place}
-use Rattle.versions.specs.declared.pieces.Place.the-variants.{Numbers, Identifiers}
+use Rattle.versions.specs.declared.pieces.Part.{Part}
+use Rattle.versions.specs.declared.pieces.Part.the-variants.{Numbers, Identifiers}
 use Rattle.versions.specs.declared.pieces.End.{End}
 use Rattle.versions.specs.declared.pieces.End.the-variants.{Dot, Dash, Last}
 use Rattle.versions.specs.Cuts.{within, ending, Ends-so, Begins}
@@ -100,8 +100,8 @@ module _ (text p : Bytes) (e : End) (rest : Bytes) where
       behind Dot so = refl
 
   -- what is left is shorter, unless nothing is
-  pub shorter : (place : Place) → Begins place text p e rest → (e ≡ Last → ⊥) → length rest < length text
-  shorter place h n = go e refl (ap length (h .whole) ∙ length-append p (ending e rest))
+  pub shorter : (part : Part) → Begins part text p e rest → (e ≡ Last → ⊥) → length rest < length text
+  shorter part h n = go e refl (ap length (h .whole) ∙ length-append p (ending e rest))
     where
       go : (f : End) → e ≡ f → length text ≡ length p + length (ending f rest) → length rest < length text
       go Dash q l = omega arith

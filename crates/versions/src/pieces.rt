@@ -4,7 +4,7 @@ ghost use Rattle.versions.specs.Cuts.{Begins};
 
 // Where a text is read.
 #[derive(Clone, Copy)]
-pub enum Place {
+pub enum Part {
     Numbers,
     Identifiers,
 }
@@ -26,13 +26,13 @@ pub struct Piece<'a> {
 }
 
 // The piece that a text begins with.
-pub fn next_piece<'a>(text: &'a [u8], place: Place) -> Piece<'a>
-    ensures { λ r. ⌜ Begins place (now (text .entry)) (now (r .text)) (r .end) (now (r .rest)) ⌝ }
+pub fn next_piece<'a>(text: &'a [u8], part: Part) -> Piece<'a>
+    ensures { λ r. ⌜ Begins part (now (text .entry)) (now (r .text)) (r .end) (now (r .rest)) ⌝ }
 {
     for (i, b) in text.iter().enumerate() {
-        let end = match (*b as char, place) {
+        let end = match (*b as char, part) {
             ('.', _) => End::Dot,
-            ('-', Place::Numbers) => End::Dash,
+            ('-', Part::Numbers) => End::Dash,
             _ => continue,
         };
         let rest = &text[i + 1..];

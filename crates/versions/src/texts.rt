@@ -10,7 +10,7 @@ use crate::kinds::is_identifier;
 use crate::kinds::is_number;
 use crate::pieces::End;
 use crate::pieces::EndOrd;
-use crate::pieces::Place;
+use crate::pieces::Part;
 use crate::pieces::next_piece;
 use std::cmp::Ordering;
 
@@ -20,7 +20,7 @@ const LONGEST: usize = 40;
 fn behind_number<'a>(text: &'a [u8]) -> Option<&'a [u8]>
     ensures { λ r. ⌜ Behind (now (text .entry)) r ⌝ }
 {
-    let piece = next_piece(text, Place::Numbers);
+    let piece = next_piece(text, Part::Numbers);
     match (is_number(piece.text), piece.end) {
         (true, End::Dot) => Some(piece.rest),
         _ => None,
@@ -32,7 +32,7 @@ fn are_identifiers(text: &[u8]) -> bool
 {
     let mut rest = text;
     loop {
-        let piece = next_piece(rest, Place::Identifiers);
+        let piece = next_piece(rest, Part::Identifiers);
         if !is_identifier(piece.text) {
             return false;
         }
@@ -53,7 +53,7 @@ fn is_release(text: &[u8]) -> bool
     let Some(patch) = behind_number(minor) else {
         return false;
     };
-    let piece = next_piece(patch, Place::Numbers);
+    let piece = next_piece(patch, Part::Numbers);
     if !is_number(piece.text) {
         return false;
     }
@@ -78,18 +78,18 @@ pub(crate) fn precedence(a: &[u8], b: &[u8]) -> Ordering
     requires { ⌜ is-version (now a) ≡ true ⌝ ∗ ⌜ is-version (now b) ≡ true ⌝ }
     ensures { λ r. ⌜ r ≡ version-order (now (a .entry)) (now (b .entry)) ⌝ }
 {
-    let mut place = Place::Numbers;
+    let mut part = Part::Numbers;
     let mut left = &a[1..];
     let mut right = &b[1..];
     loop {
-        let p = next_piece(left, place);
-        let q = next_piece(right, place);
+        let p = next_piece(left, part);
+        let q = next_piece(right, part);
         match compare_pieces(p.text, q.text).then(p.end.cmp(&q.end)) {
             Ordering::Equal => {}
             unequal => return unequal,
         }
         match p.end {
-            End::Dash => place = Place::Identifiers,
+            End::Dash => part = Part::Identifiers,
             End::Last => return Ordering::Equal,
             End::Dot => {}
         }

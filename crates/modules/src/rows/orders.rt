@@ -1,5 +1,5 @@
 // The order of rows and of module versions: by path, then by version. As a requirement a row stands by its path alone.
-ghost use Rattle.modules.specs.Rows.{row-order, module-version-order};
+ghost use Rattle.modules.specs.Rows.{row-order, module-version-order, row-path};
 use super::ModuleVersion;
 use super::Row;
 use names::path::PlainPath;
@@ -34,7 +34,7 @@ pub impl Ordered for ModuleVersion as ModuleVersionOrdered {
 }
 
 pub impl Keyed<PlainPath> for Row as RowByPath {
-    ghost keyed = { λ r. r .path };
+    ghost keyed = { row-path };
 
     fn key(&self) -> &PlainPath {
         &self.path

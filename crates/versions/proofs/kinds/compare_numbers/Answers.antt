@@ -1,5 +1,6 @@
 use mathlib.Core.Path.{sym, _∙_}
-use Rattle.versions.proofs.Numbers.{cmp-dictionary, numbers-as-long, numbers-by-length}
+use Rattle.names.proofs.Words.{cmp-dictionary}
+use Rattle.versions.proofs.Numbers.{numbers-as-long, numbers-by-length}
 use Rattle.versions.proofs.kinds.compare_numbers.Needs as need
 
 pub returns-in-Equal : need.returns-in-Equal

@@ -1,6 +1,6 @@
 use mathlib.Core.Path.{sym, ap₂, _∙_}
 use Rattle.rules.specs.Versions.{identifier-order}
-use Rattle.versions.proofs.Numbers.{cmp-dictionary}
+use Rattle.names.proofs.Words.{cmp-dictionary}
 use Rattle.versions.proofs.Spelling.{as-number, as-word}
 use Rattle.versions.proofs.kinds.compare_pieces.Needs as need
 

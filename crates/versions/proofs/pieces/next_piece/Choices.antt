@@ -6,4 +6,4 @@ use Rattle.versions.specs.Cuts.{within}
 use Rattle.versions.proofs.pieces.next_piece.Given as given
 
 abbrev pub Inv-loop-i : given.InvT-loop-i
-Inv-loop-i l = every (within (l .place)) (take (l .i) (l .text)) ≡ true
+Inv-loop-i l = every (within (l .part)) (take (l .i) (l .text)) ≡ true

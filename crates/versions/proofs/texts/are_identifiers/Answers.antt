@@ -1,6 +1,6 @@
 use mathlib.Core.Path.{_≡_, sym, _∙_}
 use native.Mathlib.Omega.{arith}
-use Rattle.versions.specs.declared.pieces.Place.the-variants.{Identifiers}
+use Rattle.versions.specs.declared.pieces.Part.the-variants.{Identifiers}
 use Rattle.versions.specs.declared.pieces.End.the-variants.{Last}
 use Rattle.versions.proofs.Steps.{shorter}
 use Rattle.versions.proofs.Releases.{no-identifier, identifier-dot, identifier-over}

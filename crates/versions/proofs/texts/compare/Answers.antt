@@ -1,6 +1,6 @@
 use mathlib.Core.Path.{sym, _∙_}
 use Rattle.rules.proofs.Order.{no-version-below}
-use Rattle.versions.proofs.Numbers.{cmp-dictionary}
+use Rattle.names.proofs.Words.{cmp-dictionary}
 use Rattle.versions.proofs.Others.{version-above, others-by-bytes}
 use Rattle.versions.proofs.texts.compare.Needs as need
 

@@ -2,7 +2,7 @@ use mathlib.Core.Path.{_≡_, sym, ap, _∙_}
 use native.Mathlib.Omega.{arith}
 use Rattle.versions.specs.declared.pieces.End.the-variants.{Last}
 use Rattle.versions.proofs.Steps.{shorter}
-use Rattle.versions.proofs.Ranks.{place-behind, sound-version, order-versions, sound-piece, turn-decides, turn-ends, turn-again}
+use Rattle.versions.proofs.Ranks.{part-behind, sound-version, order-versions, sound-piece, turn-decides, turn-ends, turn-again}
 use Rattle.versions.proofs.texts.precedence.Needs as need
 use Rattle.versions.proofs.texts.precedence.Needs.{in-Dash, in-Dot}
 
@@ -16,9 +16,9 @@ pub compare-pieces-requires : need.compare-pieces-requires
 compare-pieces-requires c κs =
     let p = c .next-piece-p .result in
     let q = c .next-piece-q .result in
-    let place = c .loop-unequal .place in (
-      sound-piece place (c .loop-unequal .left .now) (p .text .now) (p .end) (p .rest .now) (c .next-piece-p .ensures) (c .loop-unequal .inv .0),
-      sound-piece place (c .loop-unequal .right .now) (q .text .now) (q .end) (q .rest .now) (c .next-piece-q .ensures) (c .loop-unequal .inv .1),
+    let part = c .loop-unequal .part in (
+      sound-piece part (c .loop-unequal .left .now) (p .text .now) (p .end) (p .rest .now) (c .next-piece-p .ensures) (c .loop-unequal .inv .0),
+      sound-piece part (c .loop-unequal .right .now) (q .text .now) (q .end) (q .rest .now) (c .next-piece-q .ensures) (c .loop-unequal .inv .1),
     )
 
 pub returns-in-rest : need.returns-in-rest
@@ -33,14 +33,14 @@ pub loop-unequal-less : need.loop-unequal-less
 loop-unequal-less c =
     let p = c .next-piece-p .result in
     let goes-on : p .end ≡ Last → ⊥ = grind arith in
-    shorter (c .loop-unequal .left .now) (p .text .now) (p .end) (p .rest .now) (c .loop-unequal .place) (c .next-piece-p .ensures) goes-on
+    shorter (c .loop-unequal .left .now) (p .text .now) (p .end) (p .rest .now) (c .loop-unequal .part) (c .next-piece-p .ensures) goes-on
 
 pub loop-unequal-again : need.loop-unequal-again
 loop-unequal-again c =
     let p = c .next-piece-p .result in
     let goes-on : p .end ≡ Last → ⊥ = grind arith in
-    let next : c .match-p .place ≡ place-behind (c .loop-unequal .place) (p .end) = elim (c .match-p .came) [
-      | in-Dash w ↦ w .place-is ∙ ap (place-behind (c .loop-unequal .place)) (sym (w .in-Dash .is))
-      | in-Dot w ↦ w .place-is ∙ ap (place-behind (c .loop-unequal .place)) (sym (w .in-Dot .is))
+    let next : c .match-p .part ≡ part-behind (c .loop-unequal .part) (p .end) = elim (c .match-p .came) [
+      | in-Dash w ↦ w .part-is ∙ ap (part-behind (c .loop-unequal .part)) (sym (w .in-Dash .is))
+      | in-Dot w ↦ w .part-is ∙ ap (part-behind (c .loop-unequal .part)) (sym (w .in-Dot .is))
     ] in
-    turn-again (c .cmp .result) (c .next-piece-p .ensures) (c .next-piece-q .ensures) (c .loop-unequal .inv) (c .compare-pieces .ensures) (c .cmp .ensures) (c .then .ensures) (c .in-Equal .is) goes-on (c .match-p .place) next
+    turn-again (c .cmp .result) (c .next-piece-p .ensures) (c .next-piece-q .ensures) (c .loop-unequal .inv) (c .compare-pieces .ensures) (c .cmp .ensures) (c .then .ensures) (c .in-Equal .is) goes-on (c .match-p .part) next
