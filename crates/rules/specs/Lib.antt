@@ -6,6 +6,9 @@ pub mod Names
 pub mod Tables
 pub mod Rows
 pub mod Causes
+pub mod Lines
+pub mod Manifests
+pub mod ManifestExamples
 pub mod Sources
 pub mod Layers
 pub mod Projects

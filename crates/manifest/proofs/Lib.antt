@@ -1,0 +1,4 @@
+pub mod Held
+pub mod Added
+pub mod Steps
+pub mod Ended

@@ -1,0 +1,6 @@
+pub mod Owners
+pub mod Holds
+pub mod Rows
+pub mod Mains
+pub mod Views
+pub mod Outcomes
