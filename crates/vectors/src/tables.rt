@@ -21,9 +21,9 @@ use versions::version::PlainVersionPartialEq;
 
 // A text of an example is too long to be held.
 #[derive(Clone, Copy, Debug)]
-pub struct TooLong;
+pub(crate) struct TooLong;
 
-pub fn row(path: &[u8], version: &[u8]) -> Result<Row, TooLong> {
+pub(crate) fn row(path: &[u8], version: &[u8]) -> Result<Row, TooLong> {
     Row::of(path, version).ok_or(TooLong)
 }
 
