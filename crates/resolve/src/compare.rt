@@ -1,6 +1,7 @@
 // How two versions stand: -1 if the first is below the second, 0 if they are the same, 1 if it is above.
 ghost use mathlib.Core.Path.{_≡_};
 ghost use Rattle.resolve.specs.Signs.{sign as signed};
+use crate::print::Done;
 use ordered::order::Ordered;
 use std::cmp::Ordering;
 use std::error::AnyError;
@@ -18,7 +19,7 @@ pub fn sign(o: Ordering) -> i8
 }
 
 // Prints the sign for two texts, or says which of them is no version.
-pub fn compare(rt: &LibcRuntime, a: &str, b: &str) -> Result<(), AnyError> {
+pub fn compare(rt: &LibcRuntime, a: &str, b: &str) -> Result<Done, AnyError> {
     let Some(v) = Version::check(a.as_bytes()) else {
         return Err(no_version(rt, a)?);
     };
@@ -27,7 +28,7 @@ pub fn compare(rt: &LibcRuntime, a: &str, b: &str) -> Result<(), AnyError> {
     };
     let answer = sign(v.compare(&w));
     println!(rt, "{answer}")?;
-    Ok(())
+    Ok(Done::Well)
 }
 
 fn no_version(rt: &LibcRuntime, text: &str) -> Result<AnyError, AnyError> {

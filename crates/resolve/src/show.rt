@@ -1,4 +1,6 @@
 // The library at work on a few embedded examples: checks, the order of versions, the newer of two texts, and a table.
+use crate::print::Done;
+use crate::print::text_of;
 use modules::listing::Listing;
 use names::path::Path;
 use std::error::AnyError;
@@ -27,12 +29,13 @@ const MIXED: [&str; 9] = [
     "v1.0.0-rc.1",
 ];
 
-pub fn show(rt: &LibcRuntime) -> Result<(), AnyError> {
+pub fn show(rt: &LibcRuntime) -> Result<Done, AnyError> {
     show_paths(rt)?;
     show_versions(rt)?;
     show_newer(rt, "v1.9.0", "v1.10.0")?;
     show_newer(rt, "latest", "v0.0.1")?;
-    show_table(rt)
+    show_table(rt)?;
+    Ok(Done::Well)
 }
 
 fn verdict(good: bool) -> &'static str {
@@ -95,12 +98,4 @@ fn show_table(rt: &LibcRuntime) -> Result<(), AnyError> {
         println!(rt, "  {text}")?;
     }
     Ok(())
-}
-
-fn text_of(rt: &LibcRuntime, bytes: &[u8]) -> Result<String, AnyError> {
-    let mut text = String::new(rt.alloc());
-    for b in bytes {
-        text.push(*b as char)?;
-    }
-    Ok(text)
 }
