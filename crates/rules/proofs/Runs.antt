@@ -6,7 +6,8 @@ use mathlib.Core.Logic.{_↔_, _⊎_, inl, inr, ⊎-elim}
 use Prim.Native.Nat.{ℕ, _≤_}
 use native.Mathlib.Omega.{arith}
 use lib.Dec.{leb}
-use lib.ListN.{length, take}
+use native.Mathlib.Nat.{sub-zero}
+use lib.ListN.{length, take, replicate}
 use Rattle.std.specs.Orderings.{isLe, isLt}
 use Rattle.std.specs.declared.option.Option.{Option}
 use Rattle.std.specs.declared.option.Option.the-variants.{Some, None}
@@ -20,19 +21,21 @@ use Rattle.rules.specs.Causes.{Cause, too-many-module-versions, Fault, Refusal
 use Rattle.rules.specs.Sources.{Meaning, Lawful}
 use Rattle.rules.specs.Projects.{State, view, Reached, Few, with-rows, with-exclusions}
 use Rattle.rules.specs.Walks.{Place, module-versions, End, done, stopped, no-room, list-walk}
+use Rattle.rules.specs.Sheets.{List-sheet}
 use Rattle.rules.specs.Lists.{list-of}
 use Rattle.rules.specs.Faults.{Stopped, Broken, Shown-on}
 use Rattle.rules.specs.Lowers.{after-main, can-lower, lower-walk, kept-rows, old-list, ceilings-at}
-use Rattle.rules.specs.Slices.{blank, blank-place, Lent, long-enough, filled, holding}
+use Rattle.rules.specs.Slices.{blank, blank-place, Lent, long-enough, Too-short, filled, holding}
 use Rattle.rules.specs.Calls.{manifest, unread, Call, load, raise, drop, exclude, lower, list, counted, refused, Outcome, refusal-for, refusal-at, refuses, unless, raised, dropped, excluded, replied, if-done, if-long-enough, lists, lowers-nothing, lowers-by, lowers, does}
-use Rattle.rules.specs.Runs.{after, fresh, Gives, Counted, Refused, fault-of, Least, Deserved, Overfull, Lowered, Runs-right}
+use Rattle.rules.specs.Runs.{after, fresh, Gives, Counted, Refused, Turned-away, fault-of, Least, Deserved, Overfull, Lowered, Runs-right}
 use Rattle.rules.proofs.Order.{equal-from-test, before-from-less, paths, versions}
 use Rattle.rules.proofs.Lists.{list-right-at}
 use Rattle.rules.proofs.Faults.{refusal-right-at, shown-on, many}
-use Rattle.rules.proofs.Reached.{main-or-apart, sheet-distinct, sheet-reached, reached-sheet}
+use Rattle.rules.proofs.Reached.{main-or-apart, list-sheet, sheet-distinct, sheet-reached, reached-sheet}
 use Rattle.rules.proofs.Marks.{some-there}
 use Rattle.rules.proofs.Lowers.{lower-right}
-use Rattle.rules.proofs.Slices.{filled-length, short-256, long-sheet, long-list, sheet-room, list-room, on-slice, no-room-256, first-was, first-distinct}
+use Rattle.rules.proofs.Sheets.{short-256, first-was, first-distinct}
+use Rattle.rules.proofs.Slices.{filled-length, long-sheet, long-list, sheet-room, list-room, on-slice, no-room-256}
 
 -- a refused call leaves the state as it was
 
@@ -146,14 +149,15 @@ module _ (m : Meaning) (s : State) where
     abbrev rows : ℕ
     rows = length (old-list m s)
 
-    reaches-right : (k c : ℕ) → does m s (list n) .reply ≡ counted k c → (sheet : List Place) × (k ≡ length sheet)
-        × (does m s (list n) .slices .sheet ≡ filled blank-place (n .sheet) sheet) × ((x : ModuleVersion) → x ∈ module-versions sheet ↔ Reached m s x)
-    reaches-right k c q =
-        let (w, ok) = list-given n (k, c, q) in
-        let is = long-list-is n w in
-        let z : counted k c ≡ counted places rows = sym q ∙ ap (λ o. o .reply) is ∙ ap (λ e. replied e places rows) ok in
-        let all = take-all 256 (list-walk m s .sheet) (sheet-room m s (λ e. let y : _≡_ {A = ℕ} 0 1 = cc in omega arith)) in
-        (list-walk m s .sheet, cc, ap (λ o. o .slices .sheet) is ∙ ap (filled blank-place (n .sheet)) all, λ x. (sheet-reached m s x, reached-sheet m s ok x))
+    sheet-right : long-enough n ≡ true → (sheet : List Place) × (does m s (list n) .slices .sheet ≡ filled blank-place (n .sheet) sheet) × List-sheet m s sheet
+        × ((k c : ℕ) → does m s (list n) .reply ≡ counted k c → (k ≡ length sheet) × ((x : ModuleVersion) → x ∈ module-versions sheet ↔ Reached m s x))
+    sheet-right w = (take 256 (list-walk m s .sheet), ap (λ o. o .slices .sheet) (long-list-is n w), list-sheet m s, given)
+      where
+        given : (k c : ℕ) → does m s (list n) .reply ≡ counted k c → (k ≡ length (take 256 (list-walk m s .sheet))) × ((x : ModuleVersion) → x ∈ module-versions (take 256 (list-walk m s .sheet)) ↔ Reached m s x)
+        given k c q =
+            let (w, ok) = list-given n (k, c, q) in
+            let z : counted k c ≡ counted places rows = sym q ∙ ap (λ o. o .reply) (long-list-is n w) ∙ ap (λ e. replied e places rows) ok in
+            rw (take-all 256 (list-walk m s .sheet) (sheet-room m s (λ e. let y : _≡_ {A = ℕ} 0 1 = cc in omega arith))) (cc, λ x. (sheet-reached m s x, reached-sheet m s ok x))
 
     -- where the walk was stopped, the refusal tells by what
     told : (p : ℕ) (f : Fault) (r : Refusal) → list-walk m s .end ≡ stopped p f → lists m s n .reply ≡ refused r → list-walk m s .end ≡ stopped (r .sheet-place) (fault-of r)
@@ -296,6 +300,25 @@ module _ (m : Meaning) (s : State) where
           (λ t. t)
           (cases-bool (can-lower p v (old-list m s)))
 
+  -- slices that are too short
+
+  not-long : (n : Lent) → Too-short n → long-enough n ≡ false
+  not-long n h =
+      ⊎-elim (λ w. absurd (⊎-elim (λ k. omega (arith, long-sheet n w)) (λ k. omega (arith, long-list n w)) h)) (λ w. w) (cases-bool (long-enough n))
+
+  turned-away : (n : Lent) (o : Outcome) → Too-short n → Turned-away n (if-long-enough n s o)
+  turned-away n o h =
+      subst (λ b. Turned-away n (cond b o (record { reply = refused (refusal-for slice-too-short); state = s; slices = holding n [] [] }))) (sym (not-long n h))
+      (refl, ap (λ k. replicate k blank-place) (sub-zero (n .sheet)), ap (λ k. replicate k blank) (sub-zero (n .list)))
+
+  list-short-right : (n : Lent) → Too-short n → Turned-away n (does m s (list n))
+  unfolding does
+  list-short-right n h = turned-away n (lists m s n) h
+
+  lower-short-right : (p v : Bytes) (n : Lent) → Too-short n → Turned-away n (does m s (lower p v n))
+  unfolding does
+  lower-short-right p v n h = turned-away n (lowers m s p v n) h
+
   looks-right : (n : Lent) → does m s (list n) .state ≡ s
   unfolding does
   looks-right n = go (long-enough n)
@@ -375,13 +398,15 @@ pub runs-right : Runs-right
 runs-right m law calls = let s = after m fresh calls in record {
   refused-unchanged = refuses-right m s;
   list-least = least-right m s;
-  list-reached = reaches-right m s;
+  list-sheet = sheet-right m s;
   main-alone = λ x r p. ⊎-elim (λ e. e) (λ off. absurd (off p)) (main-or-apart m s x r);
   refusal-shown = explains-right m s;
   refusal-deserved = deserved-right m s;
   lower-lists-first = lists-first-right m s;
   lower-idle = idle-right m s;
   lower-kept = lowers-right m law s;
+  list-short = list-short-right m s;
+  lower-short = lower-short-right m s;
   list-lengths = lengths-right m s;
   lower-lengths = lower-lengths-right m s;
   list-unchanged = looks-right m s;

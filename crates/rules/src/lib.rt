@@ -4,6 +4,7 @@ ghost use Rattle.rules.specs.Names.{Orders-right};
 ghost use Rattle.rules.specs.Tables.{Tables-right};
 ghost use Rattle.rules.specs.Layers.{Layer-right, Fallback-right, Two-layers-right, Pile-right};
 ghost use Rattle.rules.specs.Questions.{Questions-right};
+ghost use Rattle.rules.specs.Sheets.{Sheet-stands};
 ghost use Rattle.rules.specs.Lists.{List-right};
 ghost use Rattle.rules.specs.Faults.{Refusal-right};
 ghost use Rattle.rules.specs.Lowers.{Lower-right, Kept-meant};
@@ -56,6 +57,13 @@ pub fn pile_stands() -> u8
 // What a question in a lent slice answers, and what the slice then holds.
 pub fn questions_stand() -> u8
     ensures { λ _. ⌜ Questions-right ⌝ }
+{
+    0
+}
+
+// On the sheet of a list each place came from an earlier one, and the from numbers lead back along a chain.
+pub fn sheet_stands() -> u8
+    ensures { λ _. ⌜ Sheet-stands ⌝ }
 {
     0
 }
