@@ -7,7 +7,7 @@ use native.Mathlib.Omega.{arith}
 use Rattle.std.proofs.shelf.Tests.{and-from, and-parts, not-true}
 use Rattle.rules.specs.Orders.{Bytes}
 use Rattle.rules.specs.Names.{ModuleVersion, same-path, has, Stands, _∈_, at}
-use Rattle.rules.specs.Sources.{Meaning, Lawful}
+use Rattle.rules.specs.Sources.{found, Meaning, Lawful}
 use Rattle.rules.specs.Projects.{State, main-row, off-main, View, view, Requires, Reached, Few, with-rows}
 use Rattle.rules.specs.Walks.{Place, module-versions, done, list-walk}
 use Rattle.rules.specs.Rows.{table}
@@ -19,9 +19,10 @@ use Rattle.rules.proofs.Members.{module-same, member-from-has, has-from-member
 use Rattle.rules.proofs.Rows.{one-a-path, table-ascending}
 use Rattle.rules.proofs.Reached.{off-main-apart, main-required, required-by-main, required-apart, reached-all, reached-first}
 use Rattle.rules.proofs.Lists.{is-list, list-fit, shown-reached}
-use Rattle.rules.proofs.Faults.{refusal-right-at, length-module-versions}
+use Rattle.rules.proofs.Sheets.{length-module-versions}
+use Rattle.rules.proofs.Faults.{refusal-right-at}
 use Rattle.rules.proofs.Layers.{narrowed-found, found-included, layer-lawful}
-use Rattle.rules.proofs.Offers.{upto-ceiling, ceilings-apart, offers-was, offers-holds, available-no-fault}
+use Rattle.rules.proofs.Offers.{upto-ceiling, ceilings-apart, offers-was, offered-offers, available-no-fault}
 use Rattle.rules.proofs.LowerWalks.{listings, few-rows, main-on, start-on, has-list}
 use Rattle.rules.proofs.Marks.{allowed-unbarred, unbarred-allowed, kept}
 
@@ -81,15 +82,13 @@ module _ (m : Meaning) (law : Lawful m) (s : State) (p v : Bytes) (ok : lower-wa
       allowed : Allowed (view m s) cs x
       allowed y l = let ((ys, g), under) = fits y l in (under, λ (f, r, e). available-no-fault (view m s) y ys f g r)
 
-      same : at (c .path) (x .version) ≡ x
-      same = module-same (at (c .path) (x .version)) x q refl
-
       offer : x ∈ offers (view m s .layer) cs
       offer =
           let (vs, l) = listings m s cs ok c k in
           let ((ys, g), under) = fits x itself in
-          let listed = layer-lawful m (s .exclusions) law .whole (c .path) vs l (x .version) ys (rw same g) in
-          subst (λ w. w ∈ offers (view m s .layer) cs) same (offers-holds (view m s .layer) cs c k vs l (x .version) listed (upto-ceiling cs x c under k q))
+          let on : view m s .layer .listing (x .path) ≡ found vs = ap (λ z. view m s .layer .listing z) (sym q) ∙ l in
+          let listed = layer-lawful m (s .exclusions) law .whole (x .path) vs on (x .version) ys g in
+          offered-offers (view m s .layer) cs x (c, k, q, upto-ceiling cs x c under k q, (vs, on, listed))
 
   -- a sound set's members fit
   sound-fits : (set : ModuleVersion → Type 0) → Sound (view m s) cs set → (x : ModuleVersion) → set x → Fits (view m s) cs x

@@ -37,6 +37,10 @@ first-distinct zero sheet d = tt
 first-distinct (suc n) [] d = tt
 first-distinct (suc n) (r ∷ rs) d = (λ h. d .0 (first-was n rs (r .row) h), first-distinct n rs (d .1))
 
+pub length-module-versions : (sheet : List Place) → length (module-versions sheet) ≡ length sheet
+length-module-versions [] = refl
+length-module-versions (r ∷ rs) = ap suc (length-module-versions rs)
+
 pub short-256 : (sheet : List Place) → length (take 256 sheet) ≤ 256
 short-256 sheet = omega (arith, length-take 256 sheet)
 

@@ -25,7 +25,7 @@ use Rattle.rules.proofs.Tables.{ascending-distinct}
 use Rattle.rules.proofs.Rows.{table-was, table-ascending}
 use Rattle.rules.proofs.Walks.{begun-room, begun-no-room, nth-left}
 use Rattle.rules.proofs.Reached.{off-main-apart, list-begun, main-on-sheet}
-use Rattle.rules.proofs.Faults.{length-module-versions}
+use Rattle.rules.proofs.Sheets.{length-module-versions}
 
 pub filled-length : {A : Type 0} (none : A) (n : ℕ) (xs : List A) → length xs ≤ n → length (filled none n xs) ≡ n
 filled-length none n xs h = omega (arith, length-append xs (replicate (n - length xs) none), length-replicate (n - length xs) none)
