@@ -15,10 +15,10 @@ use Rattle.rules.specs.Causes.{Fault, is-missing}
 use Rattle.rules.specs.Sources.{found, fault, Meaning}
 use Rattle.rules.specs.Projects.{State, main-row, view, remaining}
 use Rattle.rules.specs.Walks.{Place, module-versions, written, End, done, stopped, no-room, Walked, walk, first-sheet}
-use Rattle.rules.specs.Lowers.{Above, offers, Listed, Offered, Ahead, Offers-first, Missing, Passes, Met, offered, passed, Faultless, Few-met, Many-met, lower-ask, lower-walk, Lower-sheet}
+use Rattle.rules.specs.Lowers.{Above, offers, Listed, Offered, Ahead, Offers-first, Missing, Passes, Met, offered, passed, Faultless, Few-met, Many-met, lower-ask, lower-walk, Lower-sheet, Lower-stopped, at-listing, at-place}
 use Rattle.rules.proofs.Members.{member-left, member-right, distinct-push, distinct-length}
 use Rattle.rules.proofs.Walks.{Run, run-of, run-keeps, run-grows, run-answers, run-stopped, run-no-room, run-room, Kept-on, placed, nth-left, nth-within, nth-pushed, place-of, module-versions-pushed, written-keeps, written-holds, written-members, Answered}
-use Rattle.rules.proofs.Sheets.{nth-first, Traced, traced-main, traced-first, traced-next, sheet-right, places-all, length-module-versions}
+use Rattle.rules.proofs.Sheets.{nth-first, first-nth, Traced, traced-main, traced-first, traced-next, sheet-right, places-all, length-module-versions}
 use Rattle.rules.proofs.Reached.{required-apart}
 use Rattle.rules.proofs.Offers.{Ordered, ordered-front, offers-offered, offered-offers, offers-append, Offering, unlisted, overfull, all-offered, offering, lower-given, lower-asks, lower-faults, lower-passes, lower-faulted}
 
@@ -153,24 +153,23 @@ module _ (m : Meaning) (s : State) (cs : List ModuleVersion) where
 
   -- what it shows where it is not done
 
-  pub data Lower-stopped (p : ℕ) (f : Fault) : Type 0 where
-    at-listing : (front back : List ModuleVersion) (c : ModuleVersion) → cs ≡ front ++ c ∷ back → Listed layer front → layer .listing (c .path) ≡ fault f → p ≡ 0 → Lower-stopped p f
-    at-place : (q : Place) → nth sheet p ≡ Some q → Met (view m s) cs (q .row) → (Above cs (q .row) → ⊥) → remaining (view m s) (q .row) ≡ fault f → is-missing (f .cause) ≡ false → Lower-stopped p f
-
-  pub lower-stopped : (p : ℕ) (f : Fault) → lower-walk m s cs .end ≡ stopped p f → Lower-stopped p f
+  pub lower-stopped : (p : ℕ) (f : Fault) → lower-walk m s cs .end ≡ stopped p f → Lower-stopped m s cs (take 256 sheet) p f
   lower-stopped p f = go lower-begun (λ i r e. e)
     where
-      by-place : (k : ℕ) → 1 ≤ k → (r : Place) → nth sheet k ≡ Some r → lower-ask (view m s) cs (r .row) ≡ fault f → Lower-stopped k f
-      by-place zero l r n a = absurd (omega arith)
-      by-place (suc k) l r n a = let (low, e, other) = lower-faulted (view m s) cs (r .row) f a in at-place r n (place-met k r n) low e other
+      by-place : (k : ℕ) → 1 ≤ k → k < 256 → (r : Place) → nth sheet k ≡ Some r → lower-ask (view m s) cs (r .row) ≡ fault f → Lower-stopped m s cs (take 256 sheet) k f
+      by-place zero l b r n a = absurd (omega arith)
+      by-place (suc k) l b r n a = let (low, e, other) = lower-faulted (view m s) cs (r .row) f a in at-place r (first-nth 256 sheet (suc k) r n b) (place-met k r n) low e other
 
-      go : {last : List Place} {e : End} → Lower-begun last e → ((i : ℕ) (r : Place) → nth last i ≡ Some r → nth sheet i ≡ Some r) → e ≡ stopped p f → Lower-stopped p f
+      go : {last : List Place} {e : End} → Lower-begun last e → ((i : ℕ) (r : Place) → nth last i ≡ Some r → nth sheet i ≡ Some r) → e ≡ stopped p f → Lower-stopped m s cs (take 256 sheet) p f
       go (no-listing front back c {f = g} q ls h) on t =
           let gf : g ≡ f = cc in
           let zp : 0 ≡ p = cc in
           at-listing front back c q ls (h ∙ ap fault gf) (sym zp)
       go (no-space front back q h) on t = let z : _≡_ {A = ℕ} 0 1 = cc in absurd (omega arith)
-      go (walks ls h run) on t = let (l, (r, n, a)) = run-stopped (lower-ask (view m s) cs) run p f t in by-place p l r (on p r n) a
+      go (walks {last} {e} ls h run) on t =
+          let (l, (r, n, a)) = run-stopped (lower-ask (view m s) cs) run p f t in
+          let short = run-room (lower-ask (view m s) cs) run h (λ u. let z : _≡_ {A = ℕ} 0 1 = cc in omega arith) in
+          by-place p l (omega (arith, nth-within last p r n, short)) r (on p r n) a
 
   lower-no-room : {last : List Place} {e : End} → Lower-begun last e → e ≡ no-room → 256 < length last
   lower-no-room (no-listing front back c q ls h) t = let z : _≡_ {A = ℕ} 0 1 = cc in absurd (omega arith)
@@ -188,7 +187,7 @@ module _ (m : Meaning) (s : State) (cs : List ModuleVersion) where
   pub lower-done : Listed layer cs → Faultless (view m s) cs → Few-met m s cs → lower-walk m s cs .end ≡ done
   lower-done ls faultless (xs, few, main, all) = go (lower-walk m s cs .end) refl
     where
-      whole : (p : ℕ) (f : Fault) → Lower-stopped p f → ⊥
+      whole : (p : ℕ) (f : Fault) → Lower-stopped m s cs (take 256 sheet) p f → ⊥
       whole p f (at-listing front back c q fs h z) =
           let (vs, e) = ls c (rw q (member-right front (c ∷ back) c (inl refl))) in
           let z : _≡_ {A = ℕ} 0 1 = cc in

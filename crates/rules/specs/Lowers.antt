@@ -41,6 +41,10 @@ some test (x ∷ xs) = test x || some test xs
 abbrev pub can-lower : Bytes → Bytes → List ModuleVersion → Bool
 can-lower p v l = some (λ x. same-path x p && isLt (version-order v (x .version))) (after-main l)
 
+-- the same in the subject's words
+abbrev pub Stands-above : Bytes → Bytes → List ModuleVersion → Type 0
+Stands-above p v l = (x : ModuleVersion) × (x ∈ after-main l) × (x .path ≡ p) × Below v (x .version)
+
 -- the ceiling, as a row, that lowering p to v puts over a row of the list
 abbrev pub ceiling-of : Bytes → Bytes → ModuleVersion → ModuleVersion
 ceiling-of p v x = cond (same-path x p) (at (x .path) v) x
@@ -211,6 +215,15 @@ module _ (m : Meaning) (s : State) where
   pub record Lower-sheet (cs : List ModuleVersion) (sheet : List Place) : Type 0 where
     pub places : Sheet-right (main-row s) (Offered (view m s .layer) cs) (Passes (view m s) cs) sheet
     pub offers-first : Offers-first sheet
+
+  -- what a lower's walk shows that stopped with the fault f at the place k
+  pub data Lower-stopped (cs : List ModuleVersion) (sheet : List Place) (k : ℕ) (f : Fault) : Type 0 where
+    -- it is the fault of an old path's listing; those of the paths before it are found
+    at-listing : (front back : List ModuleVersion) (c : ModuleVersion) → cs ≡ front ++ c ∷ back → Listed (view m s .layer) front → view m s .layer .listing (c .path) ≡ fault f
+        → k ≡ 0 → Lower-stopped cs sheet k f
+    -- it is the fault of what stands at that place, which is met and not above its ceiling; and not that its manifest is missing
+    at-place : (q : Place) → nth sheet k ≡ Some q → Met (view m s) cs (q .row) → (Above cs (q .row) → ⊥) → remaining (view m s) (q .row) ≡ fault f → is-missing (f .cause) ≡ false
+        → Lower-stopped cs sheet k f
 
   -- The walk of a list taken right then is done, and on the old paths the list shows exactly the kept rows.
   pub record Relisted (cs rows : List ModuleVersion) : Type 0 where
