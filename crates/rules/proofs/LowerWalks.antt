@@ -17,7 +17,7 @@ use Rattle.rules.specs.Projects.{State, main-row, view, remaining}
 use Rattle.rules.specs.Walks.{Place, module-versions, written, End, done, stopped, no-room, Walked, walk, first-sheet}
 use Rattle.rules.specs.Lowers.{Above, offers, Listed, Offered, Ahead, Offers-first, Missing, Passes, Met, offered, passed, Faultless, Few-met, Many-met, lower-ask, lower-walk, Lower-sheet, Lower-stopped, at-listing, at-place}
 use Rattle.rules.proofs.Members.{member-left, member-right, distinct-push, distinct-length}
-use Rattle.rules.proofs.Walks.{Run, run-of, run-keeps, run-grows, run-answers, run-stopped, run-no-room, run-room, Kept-on, placed, nth-left, nth-within, nth-pushed, place-of, module-versions-pushed, written-keeps, written-holds, written-members, Answered}
+use Rattle.rules.proofs.Walks.{Run, run-of, run-keeps, run-grows, run-answers, run-stopped, run-no-room, run-room, Kept-on, placed, nth-within, nth-pushed, place-of, module-versions-pushed, written-keeps, written-holds, written-members, Answered}
 use Rattle.rules.proofs.Sheets.{nth-first, first-nth, Traced, traced-main, traced-first, traced-next, sheet-right, places-all, length-module-versions}
 use Rattle.rules.proofs.Reached.{required-apart}
 use Rattle.rules.proofs.Offers.{Ordered, ordered-front, offers-offered, offered-offers, offers-append, Offering, unlisted, overfull, all-offered, offering, lower-given, lower-asks, lower-faults, lower-passes, lower-faulted}

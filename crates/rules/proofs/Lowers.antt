@@ -13,7 +13,7 @@ use Rattle.rules.specs.Walks.{Place, module-versions, done, list-walk}
 use Rattle.rules.specs.Rows.{table}
 use Rattle.rules.specs.Lists.{list-of}
 use Rattle.rules.specs.Faults.{Broken}
-use Rattle.rules.specs.Lowers.{On-old-path, offers, lower-walk, barred, kept-rows, Kept, Leads, itself, through, Allowed, Fits, ceilings-at, Sound, Kept-right, Relisted, Lower-right}
+use Rattle.rules.specs.Lowers.{On-old-path, offers, lower-walk, barred, kept-rows, Kept, Leads, itself, through, Allowed, Fits, ceilings-at, Sound, Kept-right, Relisted, Sets-right, Lower-right}
 use Rattle.rules.proofs.Order.{upto-antisym, not-equal-test, paths, versions}
 use Rattle.rules.proofs.Members.{module-same, member-from-has, has-from-member}
 use Rattle.rules.proofs.Rows.{one-a-path, table-ascending}
@@ -30,6 +30,13 @@ use Rattle.rules.proofs.Marks.{allowed-unbarred, unbarred-allowed, kept}
 leads-in : (w : View) (set : ModuleVersion → Type 0) → ((x y : ModuleVersion) → set x → Requires w x y → set y) → {x y : ModuleVersion} → Leads w x y → set x → set y
 leads-in w set step itself h = h
 leads-in w set step (through {x} {y} q l) h = leads-in w set step l (step x y h q)
+
+-- what lies in a sound set fits, whatever predicate the set is
+pub sound-fits : (w : View) (cs : List ModuleVersion) (set : ModuleVersion → Type 0) → Sound w cs set → (x : ModuleVersion) → set x → Fits w cs x
+sound-fits w cs set sound x h y l = let there = leads-in w set (sound .closed) l h in (sound .available y there, sound .not-above y there)
+
+pub sets-right : (T : Type 0) → Sets-right T
+sets-right T w cs member sound t = sound-fits w cs (λ x. (t : T) × (member t ≡ x)) sound (member t) (t, refl)
 
 module _ (m : Meaning) (law : Lawful m) (s : State) (p v : Bytes) (ok : lower-walk m s (ceilings-at m s p v) .end ≡ done) where
   abbrev cs : List ModuleVersion
@@ -90,12 +97,8 @@ module _ (m : Meaning) (law : Lawful m) (s : State) (p v : Bytes) (ok : lower-wa
           let listed = layer-lawful m (s .exclusions) law .whole (x .path) vs on (x .version) ys g in
           offered-offers (view m s .layer) cs x (c, k, q, upto-ceiling cs x c under k q, (vs, on, listed))
 
-  -- a sound set's members fit
-  sound-fits : (set : ModuleVersion → Type 0) → Sound (view m s) cs set → (x : ModuleVersion) → set x → Fits (view m s) cs x
-  sound-fits set sound x h y l = let there = leads-in (view m s) set (sound .closed) l h in (sound .available y there, sound .not-above y there)
-
   most-of : (set : ModuleVersion → Type 0) → Sound (view m s) cs set → (x : ModuleVersion) → set x → On-old-path cs x → Stands x rows
-  most-of set sound x h old = highest x old (sound-fits set sound x h)
+  most-of set sound x h old = highest x old (sound-fits (view m s) cs set sound x h)
 
   -- the list right then
 

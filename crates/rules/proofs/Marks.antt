@@ -6,11 +6,9 @@ use mathlib.Core.Logic.{_⊎_, inl, inr, ⊎-elim}
 use Prim.Native.Nat.{ℕ, zero, suc, _≤_}
 use native.Mathlib.Omega.{arith}
 use lib.ListN.{length}
-use Rattle.std.specs.Orderings.{isLt}
 use Rattle.std.specs.shelf.Lists.{kept-by}
-use Rattle.std.proofs.shelf.Tests.{or-cases, or-left, or-right, or-parts, and-from, cases-bool, cases-lt, not-true}
+use Rattle.std.proofs.shelf.Tests.{or-cases, or-left, or-right, or-parts, cases-bool, cases-lt, not-true}
 use Rattle.rules.specs.Orders.{Bytes}
-use Rattle.rules.specs.Versions.{version-order}
 use Rattle.rules.specs.Names.{ModuleVersion, _∈_}
 use Rattle.rules.specs.Causes.{Fault, is-missing}
 use Rattle.rules.specs.Sources.{Answer, found, fault, Meaning, found-in}
@@ -18,7 +16,6 @@ use Rattle.rules.specs.Projects.{State, View, view, remaining, Requires}
 use Rattle.rules.specs.Walks.{module-versions, done, list-walk}
 use Rattle.rules.specs.Rows.{table}
 use Rattle.rules.specs.Lowers.{some, is-missing-answer, Above, is-above, Missing, Leads, itself, through, Allowed, Kept, old-list, ceilings-at, offers, lower-walk, is-bad, barred, kept-rows, Kept-meant}
-use Rattle.rules.proofs.Order.{test-from-equal, paths}
 use Rattle.rules.proofs.Members.{kept-member, kept-was}
 use Rattle.rules.proofs.Rows.{table-was, table-stands, table-ascending, tables-same}
 use Rattle.rules.proofs.Reached.{required-apart}

@@ -182,8 +182,8 @@ module _ (w : View) where
     -- they are a table, on old paths
     pub ascending : Ascending-rows rows
     pub on-old-paths : (x : ModuleVersion) → x ∈ rows → On-old-path cs x
-    -- By chains: a kept row fits, and whatever fits on an old path stands at or below a kept row. Whatever lies in a sound set fits,
-    -- since a set that is closed holds all that its members lead to; so this speaks of every set, told by a test or not.
+    -- By chains: a kept row fits, and whatever fits on an old path stands at or below a kept row. Whatever lies in a sound set fits
+    -- (`Sets-right`), so this speaks of every set, told by a test or not.
     pub fits : (x : ModuleVersion) → x ∈ rows → Fits cs x
     pub highest : (x : ModuleVersion) → On-old-path cs x → Fits cs x → Stands x rows
     -- By sets that are told by a test: the kept rows lie in a sound one, and none holds an old path above its kept row. Where there
@@ -229,6 +229,11 @@ module _ (m : Meaning) (s : State) where
   pub record Relisted (cs rows : List ModuleVersion) : Type 0 where
     pub listed : list-walk m (with-rows s rows) .end ≡ done
     pub shows : (x : ModuleVersion) → On-old-path cs x → x ∈ list-of (with-rows s rows) (list-walk m (with-rows s rows) .sheet) ↔ x ∈ rows
+
+-- THE SETS: whatever lies in a sound set fits. A contract cannot speak of all predicates, which are too many for it; so a set is given by a type of
+-- whatever kind, of which each thing names a member. That is every set: take for the type its members, each with a proof that it is one.
+abbrev pub Sets-right : Type 0 → Type 0
+Sets-right T = (w : View) (cs : List ModuleVersion) (member : T → ModuleVersion) → Sound w cs (λ x. (t : T) × (member t ≡ x)) → (t : T) → Fits w cs (member t)
 
 -- THE KEPT ROWS: where lower's walk is done, the rows that are computed are the kept rows, and no others are.
 abbrev pub Kept-meant : Type 0

@@ -7,7 +7,7 @@ ghost use Rattle.rules.specs.Questions.{Questions-right};
 ghost use Rattle.rules.specs.Sheets.{Sheet-stands};
 ghost use Rattle.rules.specs.Lists.{List-right};
 ghost use Rattle.rules.specs.Faults.{Refusal-right};
-ghost use Rattle.rules.specs.Lowers.{Lower-right, Kept-meant};
+ghost use Rattle.rules.specs.Lowers.{Lower-right, Kept-meant, Sets-right};
 ghost use Rattle.rules.specs.Runs.{Runs-right, Tidy-right};
 ghost use Rattle.rules.specs.Changes.{Changes-right};
 ghost use Rattle.rules.specs.Examples.{Examples};
@@ -85,6 +85,13 @@ pub fn refusal_stands() -> u8
 // The kept rows of a lower lie in a sound set, no sound set has an old path above them, and a list right then shows just them.
 pub fn lower_stands() -> u8
     ensures { λ _. ⌜ Lower-right ⌝ }
+{
+    0
+}
+
+// Whatever lies in a sound set fits, whichever set it is.
+pub fn sets_stand<T>() -> u8
+    ensures { λ _. ⌜ Sets-right T ⌝ }
 {
     0
 }
