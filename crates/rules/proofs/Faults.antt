@@ -1,10 +1,9 @@
 -- When a list is refused, and that the refusal shows a chain to what has no requirement list. Assumes nothing.
-use mathlib.Core.Path.{_≡_, refl, ap}
-use mathlib.Core.List.{List, [], _∷_}
+use mathlib.Core.Path.{_≡_, refl}
+use mathlib.Core.List.{List, _∷_}
 use mathlib.Core.Logic.{_⊎_, inl, inr, ⊎-elim}
 use Prim.Native.Nat.{ℕ, zero, suc, _≤_}
 use native.Mathlib.Omega.{arith}
-use lib.ListN.{length}
 use Rattle.std.specs.Finite.{nth}
 use Rattle.std.specs.declared.option.Option.the-variants.{Some}
 use Rattle.rules.specs.Causes.{Fault}
@@ -14,11 +13,8 @@ use Rattle.rules.specs.Walks.{Place, module-versions, End, done, stopped, no-r
 use Rattle.rules.specs.Faults.{Stopped, Broken, Shown, Shown-on, Refusal-right-at, Refusal-right}
 use Rattle.rules.proofs.Members.{distinct-length}
 use Rattle.rules.proofs.Walks.{begun-stopped, begun-no-room}
-use Rattle.rules.proofs.Reached.{chain-ends, list-begun, trail-leads, sheet-distinct, sheet-reached, reached-found}
-
-pub length-module-versions : (sheet : List Place) → length (module-versions sheet) ≡ length sheet
-length-module-versions [] = refl
-length-module-versions (r ∷ rs) = ap suc (length-module-versions rs)
+use Rattle.rules.proofs.Sheets.{length-module-versions}
+use Rattle.rules.proofs.Reached.{chain-ends, list-begun, traced, trail-leads, sheet-distinct, sheet-reached, reached-found}
 
 module _ (m : Meaning) (s : State) where
   -- on any slice that has the sheet's places
@@ -29,7 +25,7 @@ module _ (m : Meaning) (s : State) where
         go : (k : ℕ) → (1 ≤ k) × ((r : Place) × (nth (list-walk m s .sheet) k ≡ Some r) × (remaining (view m s) (r .row) ≡ fault f)) → Shown-on m s slice k f
         go zero (l, there) = absurd (omega arith)
         go (suc i) (l, (r, n, a)) =
-            let (z, xs, t, c) = trail-leads m s slice on (suc (suc i)) i r (omega arith) n in
+            let (z, xs, t, c) = trail-leads m s (list-walk m s .sheet) slice (traced m s) on (suc (suc i)) i r (omega arith) n in
             (r .row, z ∷ xs, t, c, a, chain-ends m s c)
 
   shown : (p : ℕ) (f : Fault) → list-walk m s .end ≡ stopped p f → Shown m s p f

@@ -3,7 +3,7 @@ use mathlib.Core.Path.{_≡_, refl, sym, ap, _∙_, subst}
 use mathlib.Core.Bool.{Bool, true, false, not, cond, true≢false}
 use mathlib.Core.List.{List, [], _∷_}
 use mathlib.Core.Logic.{_↔_, _⊎_, inl, inr, ⊎-elim}
-use Prim.Native.Nat.{ℕ, _+_, _≤_, _<_, min}
+use Prim.Native.Nat.{ℕ, _+_, _≤_}
 use native.Mathlib.Nat.{min-le-left, min-eq-left, min-eq-right}
 use native.Mathlib.Omega.{arith}
 use lib.Dec.{ltb}
@@ -17,7 +17,7 @@ use Rattle.rules.specs.Names.{ModuleVersion, has, at, _∈_}
 use Rattle.rules.specs.Rows.{own, joined-versions}
 use Rattle.rules.specs.Causes.{Cause, too-long, bad-byte, wrong-shape, bad-path, bad-version, module-line, row-too-many, missing, damaged-buffer, too-many-to-list, slice-too-short, too-many-module-versions, table-full, nothing-to-change, is-missing, Fault}
 use Rattle.rules.specs.Sources.{Answer, found, fault, Meaning, Lawful, narrowed, deeper, passed-up, missing-here, included, excluding, or-else, both-listed, over-64, at-most-64, falling-back}
-use Rattle.rules.specs.Layers.{Deeper-by, Comes-up, Without, nothing, left-out, stays, Missing-in, Exactly, too-many-at, Exclude-answers, Fallback-answers, Exclude-over-fallback, Fallback-over-excludes, Pile, source, exclude-layer, fallback-layer, meaning-of, On-lawful, Layer-right, Fallback-right, Two-layers-right, Pile-right}
+use Rattle.rules.specs.Layers.{Deeper-by, Comes-up, Without, nothing, left-out, stays, Missing-in, Exactly, Exclude-answers, Fallback-answers, Exclude-over-fallback, Fallback-over-excludes, source, exclude-layer, fallback-layer, meaning-of, Layer-right, Fallback-right, Two-layers-right, Pile-right}
 use Rattle.rules.proofs.Order.{versions}
 use Rattle.rules.proofs.Members.{kept-member, kept-was, all-member, all-from-members, member-from-has, has-from-member, no-member-from-has}
 use Rattle.rules.proofs.Tables.{kept-ascending, joined-ascending, entered-all-told}

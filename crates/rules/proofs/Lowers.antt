@@ -7,21 +7,22 @@ use native.Mathlib.Omega.{arith}
 use Rattle.std.proofs.shelf.Tests.{and-from, and-parts, not-true}
 use Rattle.rules.specs.Orders.{Bytes}
 use Rattle.rules.specs.Names.{ModuleVersion, same-path, has, Stands, _∈_, at}
-use Rattle.rules.specs.Sources.{Meaning, Lawful}
+use Rattle.rules.specs.Sources.{found, Meaning, Lawful}
 use Rattle.rules.specs.Projects.{State, main-row, off-main, View, view, Requires, Reached, Few, with-rows}
 use Rattle.rules.specs.Walks.{Place, module-versions, done, list-walk}
 use Rattle.rules.specs.Rows.{table}
 use Rattle.rules.specs.Lists.{list-of}
 use Rattle.rules.specs.Faults.{Broken}
-use Rattle.rules.specs.Lowers.{On-old-path, offers, lower-walk, barred, kept-rows, Kept, Leads, itself, through, Allowed, Fits, ceilings-at, Sound, Kept-right, Relisted, Lower-right}
+use Rattle.rules.specs.Lowers.{On-old-path, offers, lower-walk, barred, kept-rows, Kept, Leads, itself, through, Allowed, Fits, ceilings-at, Sound, Kept-right, Relisted, Sets-right, Lower-right}
 use Rattle.rules.proofs.Order.{upto-antisym, not-equal-test, paths, versions}
 use Rattle.rules.proofs.Members.{module-same, member-from-has, has-from-member}
 use Rattle.rules.proofs.Rows.{one-a-path, table-ascending}
 use Rattle.rules.proofs.Reached.{off-main-apart, main-required, required-by-main, required-apart, reached-all, reached-first}
 use Rattle.rules.proofs.Lists.{is-list, list-fit, shown-reached}
-use Rattle.rules.proofs.Faults.{refusal-right-at, length-module-versions}
+use Rattle.rules.proofs.Sheets.{length-module-versions}
+use Rattle.rules.proofs.Faults.{refusal-right-at}
 use Rattle.rules.proofs.Layers.{narrowed-found, found-included, layer-lawful}
-use Rattle.rules.proofs.Offers.{upto-ceiling, ceilings-apart, offers-was, offers-holds, available-no-fault}
+use Rattle.rules.proofs.Offers.{upto-ceiling, ceilings-apart, offers-was, offered-offers, available-no-fault}
 use Rattle.rules.proofs.LowerWalks.{listings, few-rows, main-on, start-on, has-list}
 use Rattle.rules.proofs.Marks.{allowed-unbarred, unbarred-allowed, kept}
 
@@ -29,6 +30,13 @@ use Rattle.rules.proofs.Marks.{allowed-unbarred, unbarred-allowed, kept}
 leads-in : (w : View) (set : ModuleVersion → Type 0) → ((x y : ModuleVersion) → set x → Requires w x y → set y) → {x y : ModuleVersion} → Leads w x y → set x → set y
 leads-in w set step itself h = h
 leads-in w set step (through {x} {y} q l) h = leads-in w set step l (step x y h q)
+
+-- what lies in a sound set fits, whatever predicate the set is
+pub sound-fits : (w : View) (cs : List ModuleVersion) (set : ModuleVersion → Type 0) → Sound w cs set → (x : ModuleVersion) → set x → Fits w cs x
+sound-fits w cs set sound x h y l = let there = leads-in w set (sound .closed) l h in (sound .available y there, sound .not-above y there)
+
+pub sets-right : (T : Type 0) → Sets-right T
+sets-right T w cs member sound t = sound-fits w cs (λ x. (t : T) × (member t ≡ x)) sound (member t) (t, refl)
 
 module _ (m : Meaning) (law : Lawful m) (s : State) (p v : Bytes) (ok : lower-walk m s (ceilings-at m s p v) .end ≡ done) where
   abbrev cs : List ModuleVersion
@@ -81,22 +89,16 @@ module _ (m : Meaning) (law : Lawful m) (s : State) (p v : Bytes) (ok : lower-wa
       allowed : Allowed (view m s) cs x
       allowed y l = let ((ys, g), under) = fits y l in (under, λ (f, r, e). available-no-fault (view m s) y ys f g r)
 
-      same : at (c .path) (x .version) ≡ x
-      same = module-same (at (c .path) (x .version)) x q refl
-
       offer : x ∈ offers (view m s .layer) cs
       offer =
           let (vs, l) = listings m s cs ok c k in
           let ((ys, g), under) = fits x itself in
-          let listed = layer-lawful m (s .exclusions) law .whole (c .path) vs l (x .version) ys (rw same g) in
-          subst (λ w. w ∈ offers (view m s .layer) cs) same (offers-holds (view m s .layer) cs c k vs l (x .version) listed (upto-ceiling cs x c under k q))
-
-  -- a sound set's members fit
-  sound-fits : (set : ModuleVersion → Type 0) → Sound (view m s) cs set → (x : ModuleVersion) → set x → Fits (view m s) cs x
-  sound-fits set sound x h y l = let there = leads-in (view m s) set (sound .closed) l h in (sound .available y there, sound .not-above y there)
+          let on : view m s .layer .listing (x .path) ≡ found vs = ap (λ z. view m s .layer .listing z) (sym q) ∙ l in
+          let listed = layer-lawful m (s .exclusions) law .whole (x .path) vs on (x .version) ys g in
+          offered-offers (view m s .layer) cs x (c, k, q, upto-ceiling cs x c under k q, (vs, on, listed))
 
   most-of : (set : ModuleVersion → Type 0) → Sound (view m s) cs set → (x : ModuleVersion) → set x → On-old-path cs x → Stands x rows
-  most-of set sound x h old = highest x old (sound-fits set sound x h)
+  most-of set sound x h old = highest x old (sound-fits (view m s) cs set sound x h)
 
   -- the list right then
 

@@ -6,11 +6,9 @@ use mathlib.Core.Logic.{_⊎_, inl, inr, ⊎-elim}
 use Prim.Native.Nat.{ℕ, zero, suc, _≤_}
 use native.Mathlib.Omega.{arith}
 use lib.ListN.{length}
-use Rattle.std.specs.Orderings.{isLt}
 use Rattle.std.specs.shelf.Lists.{kept-by}
-use Rattle.std.proofs.shelf.Tests.{or-cases, or-left, or-right, or-parts, and-from, cases-bool, cases-lt, not-true}
+use Rattle.std.proofs.shelf.Tests.{or-cases, or-left, or-right, or-parts, cases-bool, cases-lt, not-true}
 use Rattle.rules.specs.Orders.{Bytes}
-use Rattle.rules.specs.Versions.{version-order}
 use Rattle.rules.specs.Names.{ModuleVersion, _∈_}
 use Rattle.rules.specs.Causes.{Fault, is-missing}
 use Rattle.rules.specs.Sources.{Answer, found, fault, Meaning, found-in}
@@ -18,13 +16,12 @@ use Rattle.rules.specs.Projects.{State, View, view, remaining, Requires}
 use Rattle.rules.specs.Walks.{module-versions, done, list-walk}
 use Rattle.rules.specs.Rows.{table}
 use Rattle.rules.specs.Lowers.{some, is-missing-answer, Above, is-above, Missing, Leads, itself, through, Allowed, Kept, old-list, ceilings-at, offers, lower-walk, is-bad, barred, kept-rows, Kept-meant}
-use Rattle.rules.proofs.Order.{test-from-equal, paths}
 use Rattle.rules.proofs.Members.{kept-member, kept-was}
 use Rattle.rules.proofs.Rows.{table-was, table-stands, table-ascending, tables-same}
 use Rattle.rules.proofs.Reached.{required-apart}
 use Rattle.rules.proofs.Lists.{is-list}
-use Rattle.rules.proofs.Faults.{length-module-versions}
-use Rattle.rules.proofs.Offers.{above-from-test, ceilings-apart, offers-was}
+use Rattle.rules.proofs.Sheets.{length-module-versions}
+use Rattle.rules.proofs.Offers.{above-from-test, test-from-above, ceilings-apart, offers-was}
 use Rattle.rules.proofs.LowerWalks.{few-rows, start-on, has-list}
 
 -- how many of a list pass a test
@@ -68,18 +65,12 @@ module _ (f g : ModuleVersion → Bool) (more : (x : ModuleVersion) → f x ≡ 
 
 -- the tests
 
-test-from-above : (cs : List ModuleVersion) (x : ModuleVersion) → Above cs x → is-above cs x ≡ true
-test-from-above [] x (c, h, p, v) = absurd h
-test-from-above (d ∷ cs) x (c, inl e, p, v) =
-    or-left _ _ (and-from _ _ (test-from-equal paths (d .path) (x .path) (ap (λ w. w .path) (sym e) ∙ p)) (ap isLt (ap (λ w. version-order (w .version) (x .version)) (sym e) ∙ v)))
-test-from-above (d ∷ cs) x (c, inr h, p, v) = or-right _ _ (test-from-above cs x (c, h, p, v))
-
 pub some-there : (test : ModuleVersion → Bool) (xs : List ModuleVersion) → some test xs ≡ true → (x : ModuleVersion) × (x ∈ xs) × (test x ≡ true)
 some-there test [] t = absurd (true≢false (sym t))
 some-there test (x ∷ xs) t =
     ⊎-elim (λ h. (x, inl refl, h)) (λ h. let (y, k, e) = some-there test xs h in (y, inr k, e)) (or-cases (test x) (some test xs) t)
 
-there-some : (test : ModuleVersion → Bool) (xs : List ModuleVersion) (x : ModuleVersion) → x ∈ xs → test x ≡ true → some test xs ≡ true
+pub there-some : (test : ModuleVersion → Bool) (xs : List ModuleVersion) (x : ModuleVersion) → x ∈ xs → test x ≡ true → some test xs ≡ true
 there-some test [] x h t = absurd h
 there-some test (y ∷ ys) x (inl e) t = or-left _ _ (ap test (sym e) ∙ t)
 there-some test (y ∷ ys) x (inr h) t = or-right _ _ (there-some test ys x h t)

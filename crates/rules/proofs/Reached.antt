@@ -1,11 +1,11 @@
 -- What is reached, and that a list's walk that is done has on its sheet just that. Assumes nothing.
 use mathlib.Core.Path.{_≡_, refl, sym, ap, _∙_, subst}
 use mathlib.Core.Bool.{true, false, not}
-use mathlib.Core.List.{List, [], _∷_, _++_}
-use mathlib.Core.Logic.{_⊎_, inl, inr, ⊎-elim}
-use Prim.Native.Nat.{ℕ, zero, suc, _≤_, _<_}
+use mathlib.Core.List.{List, [], _∷_}
+use mathlib.Core.Logic.{_⊎_, inl, inr}
+use Prim.Native.Nat.{ℕ, zero, suc, _<_}
 use native.Mathlib.Omega.{arith}
-use lib.ListN.{length}
+use lib.ListN.{take}
 use Rattle.std.specs.Finite.{nth}
 use Rattle.std.specs.declared.option.Option.the-variants.{Some}
 use Rattle.std.proofs.shelf.Tests.{not-true}
@@ -14,9 +14,11 @@ use Rattle.rules.specs.Names.{ModuleVersion, same-path, has, _∈_, Distinct}
 use Rattle.rules.specs.Sources.{Answer, found, fault, Meaning, narrowed, included}
 use Rattle.rules.specs.Projects.{State, main-row, off-main, main-requirements, View, view, remaining, Requires, Chain, start, first, onward, Reached}
 use Rattle.rules.specs.Walks.{Place, module-versions, done, list-walk, first-sheet, trail, trail-at}
+use Rattle.rules.specs.Sheets.{Comes-from, List-sheet, Sheet-stands}
 use Rattle.rules.proofs.Order.{apart-from-test, not-equal-test, paths}
 use Rattle.rules.proofs.Members.{kept-member, kept-was}
-use Rattle.rules.proofs.Walks.{Begun, begun-of, begun-keeps, begun-grows, begun-holds, begun-answers, begun-distinct, placed, nth-left, nth-pushed, nth-within, place-of, Answered}
+use Rattle.rules.proofs.Walks.{Begun, begun-of, begun-keeps, begun-grows, begun-holds, begun-answers, begun-distinct, placed, place-of, Answered}
+use Rattle.rules.proofs.Sheets.{Traced, traced-main, traced-first, traced-next, first-traced, sheet-right}
 
 pub off-main-apart : (main : Bytes) (x : ModuleVersion) → not (same-path x main) ≡ true → x .path ≡ main → ⊥
 off-main-apart main x t = apart-from-test paths (x .path) main (not-true _ t)
@@ -98,69 +100,59 @@ module _ (m : Meaning) (s : State) where
   pub main-on-sheet : main-row s ∈ module-versions (list-walk m s .sheet)
   main-on-sheet = begun-grows (remaining (view m s)) (main-requirements s) (first-sheet s) list-begun (main-row s) (inl refl)
 
-  -- the from numbers: a row of the main module came from place 0, and another from a place before its own that requires it
+  abbrev pub List-traced : List Place → Type 0
+  List-traced = Traced (main-row s) (λ x. x ∈ main-requirements s) (Requires (view m s))
 
-  abbrev Came : List Place → ℕ → Place → Type 0
-  Came sheet i r = ((r .from ≡ 0) × (r .row ∈ main-requirements s))
-      ⊎ ((j : ℕ) × (q : Place) × (r .from ≡ suc j) × (j < i) × (nth sheet (suc j) ≡ Some q) × Requires (view m s) (q .row) (r .row))
-
-  abbrev Traced : List Place → Type 0
-  Traced sheet = (nth sheet 0 ≡ Some (placed (main-row s) 0)) × ((i : ℕ) (r : Place) → nth sheet (suc i) ≡ Some r → Came sheet i r)
-
-  -- it stays so where a place is appended that came so
-  traced-on : (sheet : List Place) (x : ModuleVersion) (k : ℕ) → Traced sheet → ((i : ℕ) → suc i ≡ length sheet → Came (sheet ++ placed x k ∷ []) i (placed x k)) → Traced (sheet ++ placed x k ∷ [])
-  traced-on sheet x k (main, old) new = (
-    nth-left sheet (placed x k ∷ []) 0 (placed (main-row s) 0) main,
-    λ i r e.
-        ⊎-elim
-        (λ g. ⊎-elim (λ h. inl h) (λ (j, q, f, l, n, h). inr (j, q, f, l, nth-left sheet (placed x k ∷ []) (suc j) q n, h)) (old i r g))
-        (λ (g, same). subst (Came (sheet ++ placed x k ∷ []) i) same (new i g))
-        (nth-pushed sheet (placed x k) (suc i) r e),
-  )
-
-  traced : Traced (list-walk m s .sheet)
+  pub traced : List-traced (list-walk m s .sheet)
   traced =
-      begun-keeps (remaining (view m s)) (main-requirements s) (first-sheet s) Traced
-      (λ sheet x h new t. traced-on sheet x 0 t (λ i g. inl (refl, h)))
-      (λ k sheet r ys x l n a h new t. traced-on sheet x k t (λ i g. inr (from-place k sheet r ys x l n a h i g)))
+      begun-keeps (remaining (view m s)) (main-requirements s) (first-sheet s) List-traced
+      (λ sheet x h new t. traced-first (main-row s) (λ y. y ∈ main-requirements s) (Requires (view m s)) sheet x h t)
+      (λ k sheet r ys x l n a h new t. traced-next (main-row s) (λ y. y ∈ main-requirements s) (Requires (view m s)) sheet k r x l n (ys, a, h) t)
       list-begun
-      (refl, λ i r e. let z : _≡_ {A = ℕ} 0 1 = cc in absurd (omega arith))
-    where
-      from-place : (k : ℕ) (sheet : List Place) (r : Place) (ys : List ModuleVersion) (x : ModuleVersion) → 1 ≤ k → nth sheet k ≡ Some r → remaining (view m s) (r .row) ≡ found ys → x ∈ ys
-          → (i : ℕ) → suc i ≡ length sheet
-          → (j : ℕ) × (q : Place) × (k ≡ suc j) × (j < i) × (nth (sheet ++ placed x k ∷ []) (suc j) ≡ Some q) × Requires (view m s) (q .row) x
-      from-place zero sheet r ys x l n a h i g = absurd (omega arith)
-      from-place (suc j) sheet r ys x l n a h i g =
-          (j, r, refl, omega (arith, nth-within sheet (suc j) r n), nth-left sheet (placed x (suc j) ∷ []) (suc j) r n, (ys, a, h))
+      (traced-main (main-row s) (λ y. y ∈ main-requirements s) (Requires (view m s)))
 
-  -- on any slice that has the sheet's places the from numbers lead back along a chain
-  module _ (slice : List Place) (on : (i : ℕ) (r : Place) → nth (list-walk m s .sheet) i ≡ Some r → nth slice i ≡ Some r) where
+  -- on any slice that has the places of such a sheet the from numbers lead back along a chain
+  module _ (sheet slice : List Place) (t : List-traced sheet) (on : (i : ℕ) (r : Place) → nth sheet i ≡ Some r → nth slice i ≡ Some r) where
     trail-main : (left : ℕ) → trail (suc left) slice 0 ≡ main-row s ∷ []
     unfolding trail
-    trail-main left = ap (trail-at (trail left slice) 0) (on 0 (placed (main-row s) 0) (traced .0))
+    trail-main left = ap (trail-at (trail left slice) 0) (on 0 (placed (main-row s) 0) (t .0))
 
-    pub trail-leads : (left place : ℕ) (r : Place) → suc place < left → nth (list-walk m s .sheet) (suc place) ≡ Some r
+    pub trail-leads : (left place : ℕ) (r : Place) → suc place < left → nth sheet (suc place) ≡ Some r
         → (z : ModuleVersion) × (xs : List ModuleVersion) × (trail left slice (suc place) ≡ r .row ∷ z ∷ xs) × Chain m s (r .row ∷ z ∷ xs)
     unfolding trail
     trail-leads zero place r h n = absurd (omega arith)
     trail-leads (suc zero) place r h n = absurd (omega arith)
-    trail-leads (suc (suc left)) place r h n = go (λ j q. trail-leads (suc left) j q) (traced .1 place r n)
+    trail-leads (suc (suc left)) place r h n = let (b, c) = t .1 place r n in go (λ j q. trail-leads (suc left) j q) (r .from) refl b c
       where
         at-place : trail (suc (suc left)) slice (suc place) ≡ r .row ∷ trail (suc left) slice (r .from)
         at-place = ap (trail-at (trail (suc left) slice) (suc place)) (on (suc place) r n)
 
-        go : ((j : ℕ) (q : Place) → suc j < suc left → nth (list-walk m s .sheet) (suc j) ≡ Some q
+        go : ((j : ℕ) (q : Place) → suc j < suc left → nth sheet (suc j) ≡ Some q
             → (z : ModuleVersion) × (xs : List ModuleVersion) × (trail (suc left) slice (suc j) ≡ q .row ∷ z ∷ xs) × Chain m s (q .row ∷ z ∷ xs))
-            → Came (list-walk m s .sheet) place r
+            → (k : ℕ) → r .from ≡ k → k < suc place → Comes-from (main-row s) (λ x. x ∈ main-requirements s) (Requires (view m s)) sheet k (r .row)
             → (z : ModuleVersion) × (xs : List ModuleVersion) × (trail (suc (suc left)) slice (suc place) ≡ r .row ∷ z ∷ xs) × Chain m s (r .row ∷ z ∷ xs)
-        go back (inl (f, k)) = (main-row s, [], at-place ∙ ap (λ i. r .row ∷ trail (suc left) slice i) f ∙ ap (λ xs. r .row ∷ xs) (trail-main left), first k)
-        go back (inr (j, q, f, l, nq, k)) =
-            let (z, xs, t, c) = back j q (omega arith) nq in
-            (q .row, z ∷ xs, at-place ∙ ap (λ i. r .row ∷ trail (suc left) slice i) f ∙ ap (λ ys. r .row ∷ ys) t, onward c k)
+        go back zero f b k = (main-row s, [], at-place ∙ ap (λ i. r .row ∷ trail (suc left) slice i) f ∙ ap (λ xs. r .row ∷ xs) (trail-main left), first k)
+        go back (suc j) f b (q, nq, k) =
+            let (z, xs, u, c) = back j q (omega arith) nq in
+            (q .row, z ∷ xs, at-place ∙ ap (λ i. r .row ∷ trail (suc left) slice i) f ∙ ap (λ ys. r .row ∷ ys) u, onward c k)
+
+    -- from every place
+    pub trail-chained : (i : ℕ) (r : Place) → nth sheet i ≡ Some r → (xs : List ModuleVersion) × (trail (suc i) slice i ≡ r .row ∷ xs) × Chain m s (r .row ∷ xs)
+    trail-chained zero r n =
+        let same : placed (main-row s) 0 ≡ r = cc (t .0) in
+        subst (λ (q : Place). (xs : List ModuleVersion) × (trail 1 slice 0 ≡ q .row ∷ xs) × Chain m s (q .row ∷ xs)) same ([], trail-main 0, start)
+    trail-chained (suc i) r n = let (z, xs, u, c) = trail-leads (suc (suc i)) i r (omega arith) n in (z ∷ xs, u, c)
+
+  pub list-sheet : List-sheet m s (take 256 (list-walk m s .sheet))
+  list-sheet = record {
+    places = sheet-right (main-row s) (λ x. x ∈ main-requirements s) (Requires (view m s)) (list-walk m s .sheet) traced sheet-distinct;
+    chained = trail-chained (take 256 (list-walk m s .sheet)) (take 256 (list-walk m s .sheet))
+        (first-traced (main-row s) (λ x. x ∈ main-requirements s) (Requires (view m s)) 256 (list-walk m s .sheet) (omega arith) traced) (λ i r e. e);
+  }
 
   -- a place after the main one has its chain
   pub place-reached : (i : ℕ) (r : Place) → nth (list-walk m s .sheet) (suc i) ≡ Some r → (z : ModuleVersion) × (xs : List ModuleVersion) × Chain m s (r .row ∷ z ∷ xs)
-  place-reached i r n = let (z, xs, t, c) = trail-leads (list-walk m s .sheet) (λ j q e. e) (suc (suc i)) i r (omega arith) n in (z, xs, c)
+  place-reached i r n = let (z, xs, t, c) = trail-leads (list-walk m s .sheet) (list-walk m s .sheet) traced (λ j q e. e) (suc (suc i)) i r (omega arith) n in (z, xs, c)
 
   pub sheet-reached : (x : ModuleVersion) → x ∈ module-versions (list-walk m s .sheet) → Reached m s x
   sheet-reached x h = go (place-of (list-walk m s .sheet) x h)
@@ -189,3 +181,6 @@ module _ (m : Meaning) (s : State) where
     -- each but the main module has its list
     pub reached-found : (x : ModuleVersion) → Reached m s x → (x .path ≡ s .main → ⊥) → (xs : List ModuleVersion) × (remaining (view m s) x ≡ found xs)
     reached-found x r off = let (xs, a, on) = sheet-answered x (reached-sheet x r) off in (xs, a)
+
+pub sheet-stands : Sheet-stands
+sheet-stands = list-sheet

@@ -3,36 +3,42 @@ use mathlib.Core.Path.{_≡_, refl, sym, ap, _∙_, subst}
 use mathlib.Core.Bool.{Bool, true, false, cond, _&&_}
 use mathlib.Core.List.{List, []}
 use mathlib.Core.Logic.{_↔_, _⊎_, inl, inr, ⊎-elim}
-use Prim.Native.Nat.{ℕ, _≤_}
+use Prim.Native.Nat.{ℕ, _-_, _≤_}
 use native.Mathlib.Omega.{arith}
 use lib.Dec.{leb}
-use lib.ListN.{length, take}
+use native.Mathlib.Nat.{sub-zero}
+use lib.ListN.{length, take, replicate, length-take}
 use Rattle.std.specs.Orderings.{isLe, isLt}
 use Rattle.std.specs.declared.option.Option.{Option}
 use Rattle.std.specs.declared.option.Option.the-variants.{Some, None}
-use Rattle.std.proofs.shelf.Lists.{take-all}
-use Rattle.std.proofs.shelf.Tests.{and-parts, cases-bool}
+use Rattle.std.proofs.shelf.Lists.{take-all, take-append-le}
+use Rattle.std.proofs.shelf.Tests.{and-parts, and-from, cases-bool}
 use Rattle.rules.specs.Orders.{Bytes}
 use Rattle.rules.specs.Versions.{version-order}
-use Rattle.rules.specs.Names.{ModuleVersion, Below, same-path, has, _∈_}
+use Rattle.rules.specs.Names.{ModuleVersion, same-path, has, _∈_}
 use Rattle.rules.specs.Rows.{row-of, with-row, with-exclusion}
 use Rattle.rules.specs.Causes.{Cause, too-many-module-versions, Fault, Refusal, nothing-to-change, table-full, slice-too-short}
 use Rattle.rules.specs.Sources.{Meaning, Lawful}
 use Rattle.rules.specs.Projects.{State, view, Reached, Few, with-rows, with-exclusions}
 use Rattle.rules.specs.Walks.{Place, module-versions, End, done, stopped, no-room, list-walk}
+use Rattle.rules.specs.Sheets.{List-sheet}
 use Rattle.rules.specs.Lists.{list-of}
 use Rattle.rules.specs.Faults.{Stopped, Broken, Shown-on}
-use Rattle.rules.specs.Lowers.{after-main, can-lower, lower-walk, kept-rows, old-list, ceilings-at}
-use Rattle.rules.specs.Slices.{blank, blank-place, Lent, long-enough, filled, holding}
+use Rattle.rules.specs.Lowers.{after-main, can-lower, Stands-above, ceilings, offers, Listed, Offered, Faultless, Few-met, Many-met, lower-walk, kept-rows, old-list, ceilings-at, Lower-stopped}
+use Rattle.rules.specs.Slices.{blank, blank-place, Lent, long-enough, Too-short, filled, holding}
 use Rattle.rules.specs.Calls.{manifest, unread, Call, load, raise, drop, exclude, lower, list, counted, refused, Outcome, refusal-for, refusal-at, refuses, unless, raised, dropped, excluded, replied, if-done, if-long-enough, lists, lowers-nothing, lowers-by, lowers, does}
-use Rattle.rules.specs.Runs.{after, fresh, Gives, Counted, Refused, fault-of, Least, Deserved, Overfull, Lowered, Runs-right}
-use Rattle.rules.proofs.Order.{equal-from-test, before-from-less, paths, versions}
-use Rattle.rules.proofs.Lists.{list-right-at}
+use Rattle.rules.specs.Runs.{after, fresh, Gives, Counted, Refused, Turned-away, fault-of, Least, Deserved, Overfull, Lowerable, Lowering, Lowered, Runs-right}
+use Rattle.rules.proofs.Order.{equal-from-test, test-from-equal, before-from-less, paths, versions}
+use Rattle.rules.proofs.Sheets.{short-256, first-was, first-distinct}
+use Rattle.rules.proofs.Lists.{is-list, list-right-at}
 use Rattle.rules.proofs.Faults.{refusal-right-at, shown-on, many}
-use Rattle.rules.proofs.Reached.{main-or-apart, sheet-distinct, sheet-reached, reached-sheet}
-use Rattle.rules.proofs.Marks.{some-there}
+use Rattle.rules.proofs.Reached.{main-or-apart, list-sheet, sheet-distinct, sheet-reached, reached-sheet}
+use Rattle.rules.proofs.Layers.{layer-lawful}
+use Rattle.rules.proofs.Offers.{ceilings-apart, ceilings-ascend, Ordered, offers-ordered}
+use Rattle.rules.proofs.LowerWalks.{lower-sheet, sheet-met, lower-stopped, over-256, many-met, lower-done, listings, few-rows, main-on, offer-on, met-on, faultless, few-met}
+use Rattle.rules.proofs.Marks.{some-there, there-some}
 use Rattle.rules.proofs.Lowers.{lower-right}
-use Rattle.rules.proofs.Slices.{filled-length, short-256, long-sheet, long-list, sheet-room, list-room, on-slice, no-room-256, first-was, first-distinct}
+use Rattle.rules.proofs.Slices.{filled-length, long-sheet, long-list, sheet-room, list-room, on-slice, no-room-256}
 
 -- a refused call leaves the state as it was
 
@@ -137,6 +143,22 @@ module _ (m : Meaning) (s : State) where
   least-right : (n : Lent) → Counted (does m s (list n)) → (l : List ModuleVersion) × Gives (does m s (list n)) n l × Least m s l
   least-right n g = let (w, ok) = list-given n g in (old-list m s, list-gives n w ok, list-right-at m s ok)
 
+  -- what is given is one list
+  given-once : (n : Lent) (o : Outcome) (k l : List ModuleVersion) → Gives o n k → Gives o n l → k ≡ l
+  given-once n o k l ((i, a), b) ((j, c), d) =
+      let same : length k ≡ length l = cc in
+      front k ∙ sym (ap (take (length k)) b) ∙ ap (take (length k)) d ∙ ap (λ h. take h (filled blank (n .list) l)) same ∙ sym (front l)
+    where
+      front : (xs : List ModuleVersion) → xs ≡ take (length xs) (filled blank (n .list) xs)
+      front xs = sym (take-append-le (length xs) xs (replicate (n .list - length xs) blank) (omega arith) ∙ take-all (length xs) xs (omega arith))
+
+  -- so it is the one that the walk makes
+  given-old : (n : Lent) (l : List ModuleVersion) → Gives (does m s (list n)) n l → (long-enough n ≡ true) × (list-walk m s .end ≡ done) × (old-list m s ≡ l)
+  given-old n l g =
+      let ((k, e), b) = g in
+      let (w, ok) = list-given n (k, length l, e) in
+      (w, ok, given-once n (does m s (list n)) (old-list m s) l (list-gives n w ok) g)
+
   -- a refusal
 
   module _ (n : Lent) where
@@ -146,14 +168,15 @@ module _ (m : Meaning) (s : State) where
     abbrev rows : ℕ
     rows = length (old-list m s)
 
-    reaches-right : (k c : ℕ) → does m s (list n) .reply ≡ counted k c → (sheet : List Place) × (k ≡ length sheet)
-        × (does m s (list n) .slices .sheet ≡ filled blank-place (n .sheet) sheet) × ((x : ModuleVersion) → x ∈ module-versions sheet ↔ Reached m s x)
-    reaches-right k c q =
-        let (w, ok) = list-given n (k, c, q) in
-        let is = long-list-is n w in
-        let z : counted k c ≡ counted places rows = sym q ∙ ap (λ o. o .reply) is ∙ ap (λ e. replied e places rows) ok in
-        let all = take-all 256 (list-walk m s .sheet) (sheet-room m s (λ e. let y : _≡_ {A = ℕ} 0 1 = cc in omega arith)) in
-        (list-walk m s .sheet, cc, ap (λ o. o .slices .sheet) is ∙ ap (filled blank-place (n .sheet)) all, λ x. (sheet-reached m s x, reached-sheet m s ok x))
+    sheet-right : long-enough n ≡ true → (sheet : List Place) × (does m s (list n) .slices .sheet ≡ filled blank-place (n .sheet) sheet) × List-sheet m s sheet
+        × ((k c : ℕ) → does m s (list n) .reply ≡ counted k c → (k ≡ length sheet) × ((x : ModuleVersion) → x ∈ module-versions sheet ↔ Reached m s x))
+    sheet-right w = (take 256 (list-walk m s .sheet), ap (λ o. o .slices .sheet) (long-list-is n w), list-sheet m s, given)
+      where
+        given : (k c : ℕ) → does m s (list n) .reply ≡ counted k c → (k ≡ length (take 256 (list-walk m s .sheet))) × ((x : ModuleVersion) → x ∈ module-versions (take 256 (list-walk m s .sheet)) ↔ Reached m s x)
+        given k c q =
+            let (w, ok) = list-given n (k, c, q) in
+            let z : counted k c ≡ counted places rows = sym q ∙ ap (λ o. o .reply) (long-list-is n w) ∙ ap (λ e. replied e places rows) ok in
+            rw (take-all 256 (list-walk m s .sheet) (sheet-room m s (λ e. let y : _≡_ {A = ℕ} 0 1 = cc in omega arith))) (cc, λ x. (sheet-reached m s x, reached-sheet m s ok x))
 
     -- where the walk was stopped, the refusal tells by what
     told : (p : ℕ) (f : Fault) (r : Refusal) → list-walk m s .end ≡ stopped p f → lists m s n .reply ≡ refused r → list-walk m s .end ≡ stopped (r .sheet-place) (fault-of r)
@@ -216,12 +239,17 @@ module _ (m : Meaning) (s : State) where
       slices = holding n (lower-walk m s cs .sheet) (old-list m s);
     }
 
-    settles : long-enough n ≡ true → list-walk m s .end ≡ done → can-lower p v (old-list m s) ≡ true → lower-walk m s cs .end ≡ done → does m s (lower p v n) ≡ settled
+    -- it goes to work
+    works : long-enough n ≡ true → list-walk m s .end ≡ done → can-lower p v (old-list m s) ≡ true → does m s (lower p v n) ≡ lowers-by m s n cs
     unfolding does
-    settles w l t e =
+    works w l t =
         ap (λ b. cond b (lowers m s p v n) (record { reply = refused (refusal-for slice-too-short); state = s; slices = holding n [] [] })) w
         ∙ ap (λ e. if-done e (cond (can-lower p v (old-list m s)) (lowers-by m s n cs) (lowers-nothing m s n)) (lists m s n)) l
         ∙ ap (λ b. cond b (lowers-by m s n cs) (lowers-nothing m s n)) t
+
+    settles : long-enough n ≡ true → list-walk m s .end ≡ done → can-lower p v (old-list m s) ≡ true → lower-walk m s cs .end ≡ done → does m s (lower p v n) ≡ settled
+    settles w l t e =
+        works w l t
         ∙ ap (λ e. record {
           reply = replied e (length (lower-walk m s cs .sheet)) (length (old-list m s));
           state = if-done e (with-rows s (kept-rows (view m s) cs)) s;
@@ -269,32 +297,49 @@ module _ (m : Meaning) (s : State) where
       by-width true (r, q) = by-end (list-walk m s .end) r q
       by-width false h = refl
 
-  idle-right : (p v : Bytes) (n : Lent) → Counted (does m s (list n)) → (l : List ModuleVersion) × Gives (does m s (list n)) n l
-      × (((x : ModuleVersion) → x ∈ after-main l → x .path ≡ p → Below v (x .version) → ⊥)
-      → (does m s (lower p v n) .reply ≡ refused (refusal-for nothing-to-change)) × (does m s (lower p v n) .slices ≡ does m s (list n) .slices))
+  -- what stands above the version
+
+  can-from : (p v : Bytes) (l : List ModuleVersion) → Stands-above p v l → can-lower p v l ≡ true
+  can-from p v l (x, h, q, u) =
+      there-some (λ x. same-path x p && isLt (version-order v (x .version))) (after-main l) x h (and-from _ _ (test-from-equal paths (x .path) p q) (ap isLt u))
+
+  from-can : (p v : Bytes) (l : List ModuleVersion) → can-lower p v l ≡ true → Stands-above p v l
+  from-can p v l t =
+      let (x, h, both) = some-there (λ x. same-path x p && isLt (version-order v (x .version))) (after-main l) t in
+      let (q, u) = and-parts (same-path x p) (isLt (version-order v (x .version))) both in
+      (x, h, equal-from-test paths (x .path) p q, before-from-less versions v (x .version) u)
+
+  idle-right : (p v : Bytes) (n : Lent) (l : List ModuleVersion) → Gives (does m s (list n)) n l → (Stands-above p v l → ⊥)
+      → (does m s (lower p v n) .reply ≡ refused (refusal-for nothing-to-change)) × (does m s (lower p v n) .slices ≡ does m s (list n) .slices)
   unfolding does
-  idle-right p v n g =
-      let (w, ok) = list-given n g in (
-        old-list m s,
-        list-gives n w ok,
-        λ none.
-            let e : if-long-enough n s (lowers m s p v n) ≡ lowers-nothing m s n =
-            ap (λ b. cond b (lowers m s p v n) (record { reply = refused (refusal-for slice-too-short); state = s; slices = holding n [] [] })) w
-            ∙ ap (λ e. if-done e (cond (can-lower p v (old-list m s)) (lowers-by m s n (ceilings-at m s p v)) (lowers-nothing m s n)) (lists m s n)) ok
-            ∙ ap (λ b. cond b (lowers-by m s n (ceilings-at m s p v)) (lowers-nothing m s n)) (cannot none)
-            in
-            (ap (λ o. o .reply) e, ap (λ o. o .slices) e ∙ sym (ap (λ o. o .slices) (long-list-is n w))),
-      )
-    where
-      cannot : ((x : ModuleVersion) → x ∈ after-main (old-list m s) → x .path ≡ p → Below v (x .version) → ⊥) → can-lower p v (old-list m s) ≡ false
-      cannot none =
-          ⊎-elim
-          (λ t.
-          let (x, h, both) = some-there (λ x. same-path x p && isLt (version-order v (x .version))) (after-main (old-list m s)) t in
-          let (q, u) = and-parts (same-path x p) (isLt (version-order v (x .version))) both in
-          absurd (none x h (equal-from-test paths (x .path) p q) (before-from-less versions v (x .version) u)))
-          (λ t. t)
-          (cases-bool (can-lower p v (old-list m s)))
+  idle-right p v n l g none =
+      let (w, ok, same) = given-old n l g in
+      let cannot : can-lower p v (old-list m s) ≡ false = ⊎-elim (λ t. absurd (none (subst (Stands-above p v) same (from-can p v (old-list m s) t)))) (λ t. t) (cases-bool (can-lower p v (old-list m s))) in
+      let e : if-long-enough n s (lowers m s p v n) ≡ lowers-nothing m s n =
+      ap (λ b. cond b (lowers m s p v n) (record { reply = refused (refusal-for slice-too-short); state = s; slices = holding n [] [] })) w
+      ∙ ap (λ e. if-done e (cond (can-lower p v (old-list m s)) (lowers-by m s n (ceilings-at m s p v)) (lowers-nothing m s n)) (lists m s n)) ok
+      ∙ ap (λ b. cond b (lowers-by m s n (ceilings-at m s p v)) (lowers-nothing m s n)) cannot
+      in
+      (ap (λ o. o .reply) e, ap (λ o. o .slices) e ∙ sym (ap (λ o. o .slices) (long-list-is n w)))
+
+  -- slices that are too short
+
+  not-long : (n : Lent) → Too-short n → long-enough n ≡ false
+  not-long n h =
+      ⊎-elim (λ w. absurd (⊎-elim (λ k. omega (arith, long-sheet n w)) (λ k. omega (arith, long-list n w)) h)) (λ w. w) (cases-bool (long-enough n))
+
+  turned-away : (n : Lent) (o : Outcome) → Too-short n → Turned-away n (if-long-enough n s o)
+  turned-away n o h =
+      subst (λ b. Turned-away n (cond b o (record { reply = refused (refusal-for slice-too-short); state = s; slices = holding n [] [] }))) (sym (not-long n h))
+      (refl, ap (λ k. replicate k blank-place) (sub-zero (n .sheet)), ap (λ k. replicate k blank) (sub-zero (n .list)))
+
+  list-short-right : (n : Lent) → Too-short n → Turned-away n (does m s (list n))
+  unfolding does
+  list-short-right n h = turned-away n (lists m s n) h
+
+  lower-short-right : (p v : Bytes) (n : Lent) → Too-short n → Turned-away n (does m s (lower p v n))
+  unfolding does
+  lower-short-right p v n h = turned-away n (lowers m s p v n) h
 
   looks-right : (n : Lent) → does m s (list n) .state ≡ s
   unfolding does
@@ -303,6 +348,78 @@ module _ (m : Meaning) (s : State) where
       go : (b : Bool) → cond b (lists m s n) (record { reply = refused (refusal-for slice-too-short); state = s; slices = holding n [] [] }) .state ≡ s
       go true = refl
       go false = refl
+
+-- a lower that goes to work
+
+module _ (m : Meaning) (law : Lawful m) (s : State) (p v : Bytes) (n : Lent) where
+  abbrev ceils : List ModuleVersion
+  ceils = ceilings-at m s p v
+
+  abbrev lower-places : List Place
+  lower-places = lower-walk m s ceils .sheet
+
+  -- no offer is on the main path
+  off : (x : ModuleVersion) → Offered (view m s .layer) ceils x → x .path ≡ s .main → ⊥
+  off x (c, h, q, u, l) e = ceilings-apart s p v (old-list m s) (is-list s (list-walk m s .sheet)) c h (q ∙ e)
+
+  in-order : Ordered (offers (view m s .layer) ceils)
+  in-order = offers-ordered (view m s .layer) (layer-lawful m (s .exclusions) law .ascending) ceils (ceilings-ascend s p v (old-list m s) (is-list s (list-walk m s .sheet)))
+
+  lowering : long-enough n ≡ true → Lowering m s p v n (old-list m s) (lowers-by m s n ceils)
+  lowering w = record {
+    old = refl;
+    sheet = take 256 lower-places;
+    holds = refl;
+    right = lower-sheet m s ceils in-order;
+    places = λ k rows q. let ok = ended k rows q in let z : counted k rows ≡ counted (length lower-places) (length (old-list m s)) = sym q ∙ ap (λ e. replied e (length lower-places) (length (old-list m s))) ok in rw (all ok) (cc);
+    all-offered = λ (k, rows, q) x h. let ok = ended k rows q in rw (all ok) (offer-on m s ceils ok x h);
+    all-met = λ (k, rows, q) x. let ok = ended k rows q in rw (all ok) (sheet-met m s ceils x, λ h. ⊎-elim (λ e. rw e (main-on m s ceils ok)) (met-on m s ceils ok off) h);
+    refusal = λ r q. shows (lower-walk m s ceils .end) refl r q;
+  }
+    where
+      ended : (k rows : ℕ) → lowers-by m s n ceils .reply ≡ counted k rows → lower-walk m s ceils .end ≡ done
+      ended k rows q = replied-done m s (lower-walk m s ceils .end) (length lower-places) (length (old-list m s)) k rows q
+
+      all : lower-walk m s ceils .end ≡ done → take 256 lower-places ≡ lower-places
+      all ok = take-all 256 lower-places (few-rows m s ceils ok)
+
+      shows : (e : End) → lower-walk m s ceils .end ≡ e → (r : Refusal) → replied e (length lower-places) (length (old-list m s)) ≡ refused r
+          → Lower-stopped m s ceils (take 256 lower-places) (r .sheet-place) (fault-of r)
+          ⊎ ((r ≡ refusal-for too-many-module-versions) × (length (take 256 lower-places) ≡ 256) × Many-met m s ceils)
+      shows done t r q = let z : _≡_ {A = ℕ} 0 1 = cc in absurd (omega arith)
+      shows (stopped k f) t r q =
+          let same : refusal-at k f ≡ r = cc in
+          inl (subst (λ w. Lower-stopped m s ceils (take 256 lower-places) (w .sheet-place) (fault-of w)) same (lower-stopped m s ceils k f t))
+      shows no-room t r q =
+          let same : refusal-for too-many-module-versions ≡ r = cc in
+          inr (sym same, omega (arith, length-take 256 lower-places, over-256 m s ceils t), many-met m s ceils t)
+
+  shown-right : (l : List ModuleVersion) → Gives (does m s (list n)) n l → Stands-above p v l → Lowering m s p v n l (does m s (lower p v n))
+  shown-right l g st =
+      let (w, ok, same) = given-old m s n l g in
+      let can = can-from m s p v (old-list m s) (subst (Stands-above p v) (sym same) st) in
+      subst (λ k. Lowering m s p v n k (does m s (lower p v n))) same (subst (Lowering m s p v n (old-list m s)) (sym (works m s p v n w ok can)) (lowering w))
+
+  accepted-right : Counted (does m s (lower p v n)) ↔ Lowerable m s p v n
+  accepted-right = (to, from)
+    where
+      to : Counted (does m s (lower p v n)) → Lowerable m s p v n
+      to g = let (w, l, t, e) = lower-given m s p v n g in record {
+        old = old-list m s;
+        given = list-gives m s n w l;
+        stands = from-can m s p v (old-list m s) t;
+        listed = listings m s ceils e;
+        faultless = faultless m s ceils e off;
+        few = few-met m s ceils e off;
+      }
+
+      from : Lowerable m s p v n → Counted (does m s (lower p v n))
+      from c =
+          let (w, l, same) = given-old m s n (c .old) (c .given) in
+          let can = can-from m s p v (old-list m s) (subst (Stands-above p v) (sym same) (c .stands)) in
+          let there = sym (ap (ceilings p v) same) in
+          let ok = lower-done m s ceils (subst (Listed (view m s .layer)) there (c .listed)) (subst (Faultless (view m s)) there (c .faultless)) (subst (Few-met m s) there (c .few)) in
+          (length lower-places, length (old-list m s), ap (λ o. o .reply) (settles m s p v n w l can ok))
 
 lowers-right : (m : Meaning) → Lawful m → (s : State) (p v : Bytes) (n : Lent) → Counted (does m s (lower p v n)) → Lowered m s p v n (does m s (lower p v n))
 lowers-right m law s p v n g =
@@ -375,13 +492,17 @@ pub runs-right : Runs-right
 runs-right m law calls = let s = after m fresh calls in record {
   refused-unchanged = refuses-right m s;
   list-least = least-right m s;
-  list-reached = reaches-right m s;
+  list-sheet = sheet-right m s;
   main-alone = λ x r p. ⊎-elim (λ e. e) (λ off. absurd (off p)) (main-or-apart m s x r);
   refusal-shown = explains-right m s;
   refusal-deserved = deserved-right m s;
   lower-lists-first = lists-first-right m s;
   lower-idle = idle-right m s;
+  lower-shown = λ p v n. shown-right m law s p v n;
+  lower-accepted = λ p v n. accepted-right m law s p v n;
   lower-kept = lowers-right m law s;
+  list-short = list-short-right m s;
+  lower-short = lower-short-right m s;
   list-lengths = lengths-right m s;
   lower-lengths = lower-lengths-right m s;
   list-unchanged = looks-right m s;

@@ -1,9 +1,9 @@
 -- What a list leaves in its slices: there is room for it, and the sheet's places stand there. Assumes nothing.
 use mathlib.Core.Path.{_≡_, refl}
 use mathlib.Core.Bool.{true, not}
-use mathlib.Core.List.{List, [], _∷_}
+use mathlib.Core.List.{List, _∷_}
 use mathlib.Core.Logic.{inl, inr}
-use Prim.Native.Nat.{ℕ, zero, suc, _≤_, _-_}
+use Prim.Native.Nat.{ℕ, _≤_, _-_}
 use native.Mathlib.Omega.{arith}
 use lib.Dec.{leb}
 use lib.ListN.{length, take, replicate, length-take, length-append, length-replicate}
@@ -25,24 +25,10 @@ use Rattle.rules.proofs.Tables.{ascending-distinct}
 use Rattle.rules.proofs.Rows.{table-was, table-ascending}
 use Rattle.rules.proofs.Walks.{begun-room, begun-no-room, nth-left}
 use Rattle.rules.proofs.Reached.{off-main-apart, list-begun, main-on-sheet}
-use Rattle.rules.proofs.Faults.{length-module-versions}
+use Rattle.rules.proofs.Sheets.{length-module-versions}
 
 pub filled-length : {A : Type 0} (none : A) (n : ℕ) (xs : List A) → length xs ≤ n → length (filled none n xs) ≡ n
 filled-length none n xs h = omega (arith, length-append xs (replicate (n - length xs) none), length-replicate (n - length xs) none)
-
-pub short-256 : (sheet : List Place) → length (take 256 sheet) ≤ 256
-short-256 sheet = omega (arith, length-take 256 sheet)
-
-pub first-was : (n : ℕ) (sheet : List Place) (x : ModuleVersion) → x ∈ module-versions (take n sheet) → x ∈ module-versions sheet
-first-was zero sheet x h = absurd h
-first-was (suc n) [] x h = absurd h
-first-was (suc n) (r ∷ rs) x (inl e) = inl e
-first-was (suc n) (r ∷ rs) x (inr h) = inr (first-was n rs x h)
-
-pub first-distinct : (n : ℕ) (sheet : List Place) → Distinct (module-versions sheet) → Distinct (module-versions (take n sheet))
-first-distinct zero sheet d = tt
-first-distinct (suc n) [] d = tt
-first-distinct (suc n) (r ∷ rs) d = (λ h. d .0 (first-was n rs (r .row) h), first-distinct n rs (d .1))
 
 pub long-sheet : (n : Lent) → long-enough n ≡ true → 256 ≤ n .sheet
 long-sheet n w = leb-true 256 (n .sheet) (and-parts (leb 256 (n .sheet)) (leb 256 (n .list)) w .0)

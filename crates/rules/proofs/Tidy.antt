@@ -30,7 +30,7 @@ use Rattle.rules.proofs.Order as order
 use Rattle.rules.proofs.Members.{distinct-length}
 use Rattle.rules.proofs.Tables.{ascending-distinct, lookup-there, entered-old, entered-most, entered-all-most, entered-keep-ascending, joined-ascending, removed-ascending, removed-most}
 use Rattle.rules.proofs.Rows.{with-row-ascending, table-ascending}
-use Rattle.rules.proofs.Faults.{length-module-versions}
+use Rattle.rules.proofs.Sheets.{length-module-versions}
 use Rattle.rules.proofs.LowerWalks.{few-rows, start-on}
 use Rattle.rules.proofs.Marks.{kept}
 

@@ -13,6 +13,7 @@ pub mod Sources
 pub mod Layers
 pub mod Projects
 pub mod Walks
+pub mod Sheets
 pub mod Lists
 pub mod Faults
 pub mod Lowers

@@ -9,19 +9,23 @@
 use mathlib.Core.Path.{_≡_}
 use mathlib.Core.Bool.{Bool, true, false, not, cond, _&&_, _||_}
 use mathlib.Core.List.{List, [], _∷_, _++_, map}
-use mathlib.Core.Logic.{_↔_}
-use Prim.Native.Nat.{ℕ, zero, suc}
+use mathlib.Core.Logic.{_↔_, _⊎_}
+use Prim.Native.Nat.{ℕ, zero, suc, _≤_, _<_}
+use lib.ListN.{length}
+use Rattle.std.specs.Finite.{nth}
+use Rattle.std.specs.declared.option.Option.the-variants.{Some}
 use Rattle.std.specs.Orderings.{isLt, isLe, isEq}
 use Rattle.std.specs.shelf.Lists.{kept-by}
 use Rattle.rules.specs.Orders.{Bytes}
 use Rattle.rules.specs.Paths.{path-order}
 use Rattle.rules.specs.Versions.{version-order}
-use Rattle.rules.specs.Names.{ModuleVersion, same-path, Below, Stands, _∈_, at}
+use Rattle.rules.specs.Names.{ModuleVersion, same-path, Before, Below, Upto, Stands, _∈_, Distinct, at}
 use Rattle.rules.specs.Rows.{Ascending-rows, table}
 use Rattle.rules.specs.Causes.{Fault, is-missing}
 use Rattle.rules.specs.Sources.{Answer, found, fault, Meaning, Lawful, found-in}
-use Rattle.rules.specs.Projects.{State, with-rows, View, view, remaining, Requires}
+use Rattle.rules.specs.Projects.{State, with-rows, main-row, View, view, remaining, Requires}
 use Rattle.rules.specs.Walks.{Place, written, done, stopped, Walked, ended, if-room, walk, first-sheet, list-walk}
+use Rattle.rules.specs.Sheets.{Sheet-right}
 use Rattle.rules.specs.Lists.{list-of}
 
 -- a list without its main row
@@ -36,6 +40,10 @@ some test (x ∷ xs) = test x || some test xs
 -- a list can be lowered at a path to a version: the path stands there, after the main row, above the version
 abbrev pub can-lower : Bytes → Bytes → List ModuleVersion → Bool
 can-lower p v l = some (λ x. same-path x p && isLt (version-order v (x .version))) (after-main l)
+
+-- the same in the subject's words
+abbrev pub Stands-above : Bytes → Bytes → List ModuleVersion → Type 0
+Stands-above p v l = (x : ModuleVersion) × (x ∈ after-main l) × (x .path ≡ p) × Below v (x .version)
 
 -- the ceiling, as a row, that lowering p to v puts over a row of the list
 abbrev pub ceiling-of : Bytes → Bytes → ModuleVersion → ModuleVersion
@@ -67,6 +75,23 @@ offer c (v ∷ vs) = offer c vs ++ cond (isLe (version-order v (c .version))) (a
 abbrev pub offers : Meaning → List ModuleVersion → List ModuleVersion
 offers n [] = []
 offers n (c ∷ cs) = offer c (found-in (n .listing (c .path))) ++ offers n cs
+
+-- every old path's listing is found
+abbrev pub Listed : Meaning → List ModuleVersion → Type 0
+Listed n cs = (c : ModuleVersion) → c ∈ cs → (vs : List Bytes) × (n .listing (c .path) ≡ found vs)
+
+-- x is offered: its version is listed, at or under the ceiling of its path
+abbrev pub Offered : Meaning → List ModuleVersion → ModuleVersion → Type 0
+Offered n cs x = (c : ModuleVersion) × (c ∈ cs) × (c .path ≡ x .path) × Upto (x .version) (c .version)
+    × ((vs : List Bytes) × (n .listing (x .path) ≡ found vs) × (x .version ∈ vs))
+
+-- the order of the offers: path by path, and of a path the highest version first
+abbrev pub Ahead : ModuleVersion → ModuleVersion → Type 0
+Ahead x y = Before (x .path) (y .path) ⊎ ((x .path ≡ y .path) × Below (y .version) (x .version))
+
+-- of two places after the first, if the later one is from 0, so is the earlier one, and its row is ahead
+abbrev pub Offers-first : List Place → Type 0
+Offers-first sheet = (i j : ℕ) (q r : Place) → 0 < i → i < j → nth sheet i ≡ Some q → nth sheet j ≡ Some r → r .from ≡ 0 → (q .from ≡ 0) × Ahead (q .row) (r .row)
 
 -- what comes after the listing of an old path: its offer is written from place 0
 abbrev pub offer-written : (List Place → Walked) → ModuleVersion → List Place → Answer (List Bytes) → Walked
@@ -111,6 +136,19 @@ module _ (w : View) where
     itself : {x : ModuleVersion} → Leads x x
     through : {x y z : ModuleVersion} → Requires w x y → Leads y z → Leads x z
 
+  -- lower's walk comes from x to y: x is not above its ceiling, and y remains required by it
+  abbrev pub Passes : List ModuleVersion → ModuleVersion → ModuleVersion → Type 0
+  Passes cs x y = (Above cs x → ⊥) × Requires w x y
+
+  -- x is met: it is offered, or lower's walk comes to it from what is met
+  pub data Met (cs : List ModuleVersion) : ModuleVersion → Type 0 where
+    offered : {x : ModuleVersion} → Offered (w .layer) cs x → Met cs x
+    passed : {x y : ModuleVersion} → Met cs x → Passes cs x y → Met cs y
+
+  -- nothing that is met has a fault, other than that its manifest is missing; what is above its ceiling is not questioned
+  abbrev pub Faultless : List ModuleVersion → Type 0
+  Faultless cs = (x : ModuleVersion) → Met cs x → (Above cs x → ⊥) → (f : Fault) → remaining w x ≡ fault f → is-missing (f .cause) ≡ true
+
   -- its manifest is missing
   abbrev pub Missing : ModuleVersion → Type 0
   Missing x = (f : Fault) × (remaining w x ≡ fault f) × (is-missing (f .cause) ≡ true)
@@ -144,8 +182,8 @@ module _ (w : View) where
     -- they are a table, on old paths
     pub ascending : Ascending-rows rows
     pub on-old-paths : (x : ModuleVersion) → x ∈ rows → On-old-path cs x
-    -- By chains: a kept row fits, and whatever fits on an old path stands at or below a kept row. Whatever lies in a sound set fits,
-    -- since a set that is closed holds all that its members lead to; so this speaks of every set, told by a test or not.
+    -- By chains: a kept row fits, and whatever fits on an old path stands at or below a kept row. Whatever lies in a sound set fits
+    -- (`Sets-right`), so this speaks of every set, told by a test or not.
     pub fits : (x : ModuleVersion) → x ∈ rows → Fits cs x
     pub highest : (x : ModuleVersion) → On-old-path cs x → Fits cs x → Stands x rows
     -- By sets that are told by a test: the kept rows lie in a sound one, and none holds an old path above its kept row. Where there
@@ -165,10 +203,37 @@ module _ (m : Meaning) (s : State) where
   abbrev pub ceilings-at : Bytes → Bytes → List ModuleVersion
   ceilings-at p v = ceilings p v old-list
 
+  -- at most 256 are met, with the main row: a list of so many holds them all
+  abbrev pub Few-met : List ModuleVersion → Type 0
+  Few-met cs = (xs : List ModuleVersion) × (length xs ≤ 256) × (main-row s ∈ xs) × ((x : ModuleVersion) → Met (view m s) cs x → x ∈ xs)
+
+  -- more than 256 are: here are so many, none twice
+  abbrev pub Many-met : List ModuleVersion → Type 0
+  Many-met cs = (xs : List ModuleVersion) × (256 < length xs) × Distinct xs × ((x : ModuleVersion) → x ∈ xs → (x ≡ main-row s) ⊎ Met (view m s) cs x)
+
+  -- The sheet of a lower: each place came from an earlier one, those from 0 by an offer; and these come first, in the order of the offers.
+  pub record Lower-sheet (cs : List ModuleVersion) (sheet : List Place) : Type 0 where
+    pub places : Sheet-right (main-row s) (Offered (view m s .layer) cs) (Passes (view m s) cs) sheet
+    pub offers-first : Offers-first sheet
+
+  -- what a lower's walk shows that stopped with the fault f at the place k
+  pub data Lower-stopped (cs : List ModuleVersion) (sheet : List Place) (k : ℕ) (f : Fault) : Type 0 where
+    -- it is the fault of an old path's listing; those of the paths before it are found
+    at-listing : (front back : List ModuleVersion) (c : ModuleVersion) → cs ≡ front ++ c ∷ back → Listed (view m s .layer) front → view m s .layer .listing (c .path) ≡ fault f
+        → k ≡ 0 → Lower-stopped cs sheet k f
+    -- it is the fault of what stands at that place, which is met and not above its ceiling; and not that its manifest is missing
+    at-place : (q : Place) → nth sheet k ≡ Some q → Met (view m s) cs (q .row) → (Above cs (q .row) → ⊥) → remaining (view m s) (q .row) ≡ fault f → is-missing (f .cause) ≡ false
+        → Lower-stopped cs sheet k f
+
   -- The walk of a list taken right then is done, and on the old paths the list shows exactly the kept rows.
   pub record Relisted (cs rows : List ModuleVersion) : Type 0 where
     pub listed : list-walk m (with-rows s rows) .end ≡ done
     pub shows : (x : ModuleVersion) → On-old-path cs x → x ∈ list-of (with-rows s rows) (list-walk m (with-rows s rows) .sheet) ↔ x ∈ rows
+
+-- THE SETS: whatever lies in a sound set fits. A contract cannot speak of all predicates, which are too many for it; so a set is given by a type of
+-- whatever kind, of which each thing names a member. That is every set: take for the type its members, each with a proof that it is one.
+abbrev pub Sets-right : Type 0 → Type 0
+Sets-right T = (w : View) (cs : List ModuleVersion) (member : T → ModuleVersion) → Sound w cs (λ x. (t : T) × (member t ≡ x)) → (t : T) → Fits w cs (member t)
 
 -- THE KEPT ROWS: where lower's walk is done, the rows that are computed are the kept rows, and no others are.
 abbrev pub Kept-meant : Type 0

@@ -6,19 +6,20 @@ use mathlib.Core.List.{List, [], _∷_}
 use mathlib.Core.Logic.{_↔_, _⊎_}
 use Prim.Native.Nat.{ℕ, _≤_}
 use lib.Chars.{codes}
-use lib.ListN.{length}
+use lib.ListN.{length, replicate}
 use Rattle.std.specs.shelf.Lists.{All}
 use Rattle.rules.specs.Orders.{Bytes}
-use Rattle.rules.specs.Names.{ModuleVersion, Below, _∈_, Distinct}
+use Rattle.rules.specs.Names.{ModuleVersion, _∈_, Distinct}
 use Rattle.rules.specs.Rows.{Ascending-rows, Ascending-exclusions}
-use Rattle.rules.specs.Causes.{too-many-module-versions, nothing-to-change, Refusal, Fault}
+use Rattle.rules.specs.Causes.{slice-too-short, too-many-module-versions, nothing-to-change, Refusal, Fault}
 use Rattle.rules.specs.Sources.{Meaning, Lawful}
 use Rattle.rules.specs.Projects.{State, Only-rows-change, main-row, view, Reached, Few, Many}
 use Rattle.rules.specs.Walks.{Place, module-versions}
+use Rattle.rules.specs.Sheets.{List-sheet}
 use Rattle.rules.specs.Lists.{Is-list, Least-fit}
 use Rattle.rules.specs.Faults.{Broken, Shown-on}
-use Rattle.rules.specs.Lowers.{after-main, ceilings, On-old-path, Kept-right}
-use Rattle.rules.specs.Slices.{blank, blank-place, Lent, long-enough, filled}
+use Rattle.rules.specs.Lowers.{Stands-above, ceilings, On-old-path, Listed, Offered, Met, Faultless, Few-met, Many-met, Kept-right, Lower-sheet, Lower-stopped}
+use Rattle.rules.specs.Slices.{blank, blank-place, Lent, long-enough, Too-short, filled}
 use Rattle.rules.specs.Calls.{manifest, unread, Call, load, raise, drop, exclude, lower, list, counted, refused, Outcome, refusal-for, does}
 
 -- a fresh project
@@ -45,6 +46,10 @@ Counted o = (places rows : ℕ) × (o .reply ≡ counted places rows)
 abbrev pub Refused : Outcome → Type 0
 Refused o = (r : Refusal) × (o .reply ≡ refused r)
 
+-- a list or a lower is refused because a slice is too short
+abbrev pub Turned-away : Lent → Outcome → Type 0
+Turned-away n o = (o .reply ≡ refused (refusal-for slice-too-short)) × (o .slices .sheet ≡ replicate (n .sheet) blank-place) × (o .slices .list ≡ replicate (n .list) blank)
+
 abbrev pub fault-of : Refusal → Fault
 fault-of r = record { cause = r .cause; place = r .place; depth = r .depth }
 
@@ -63,6 +68,32 @@ module _ (m : Meaning) (s : State) where
   abbrev pub Overfull : Lent → Outcome → Type 0
   Overfull n o = Many m s × ((sheet : List Place) × (length sheet ≡ 256) × (o .slices .sheet ≡ filled blank-place (n .sheet) sheet)
       × Distinct (module-versions sheet) × ((x : ModuleVersion) → x ∈ module-versions sheet → Reached m s x))
+
+  -- When a lower of the path p to the version v is accepted: the list is given, the path stands on it above the version, every old path's listing
+  -- is found, nothing that is met under the ceilings has a fault other than a missing manifest, and with the main row at most 256 are met.
+  pub record Lowerable (p v : Bytes) (n : Lent) : Type 0 where
+    pub old : List ModuleVersion
+    pub given : Gives (does m s (list n)) n old
+    pub stands : Stands-above p v old
+    pub listed : Listed (view m s .layer) (ceilings p v old)
+    pub faultless : Faultless (view m s) (ceilings p v old)
+    pub few : Few-met m s (ceilings p v old)
+
+  -- what a lower leaves, accepted or refused, whose list l is given and has the path above the version
+  pub record Lowering (p v : Bytes) (n : Lent) (l : List ModuleVersion) (o : Outcome) : Type 0 where
+    -- the list slice holds the list
+    pub old : o .slices .list ≡ filled blank (n .list) l
+    -- the sheet slice holds the sheet, as far as it was written, and then blanks
+    pub sheet : List Place
+    pub holds : o .slices .sheet ≡ filled blank-place (n .sheet) sheet
+    pub right : Lower-sheet m s (ceilings p v l) sheet
+    -- accepted, it has every offer from 0, and just what is met
+    pub places : (k rows : ℕ) → o .reply ≡ counted k rows → k ≡ length sheet
+    pub all-offered : Counted o → (x : ModuleVersion) → Offered (view m s .layer) (ceilings p v l) x → record { row = x; from = 0 } ∈ sheet
+    pub all-met : Counted o → (x : ModuleVersion) → x ∈ module-versions sheet ↔ ((x ≡ main-row s) ⊎ Met (view m s) (ceilings p v l) x)
+    -- refused, it shows why: by a listing, by what stands at a place, or by there being more than 256
+    pub refusal : (r : Refusal) → o .reply ≡ refused r
+        → Lower-stopped m s (ceilings p v l) sheet (r .sheet-place) (fault-of r) ⊎ ((r ≡ refusal-for too-many-module-versions) × (length sheet ≡ 256) × Many-met m s (ceilings p v l))
 
   -- what an accepted lower of the path p to the version v is worth
   pub record Lowered (p v : Bytes) (n : Lent) (o : Outcome) : Type 0 where
@@ -84,9 +115,10 @@ module _ (m : Meaning) (s : State) where
     pub refused-unchanged : (c : Call) → Refused (does m s c) → does m s c .state ≡ s
     -- a list that is given is the least
     pub list-least : (n : Lent) → Counted (does m s (list n)) → (l : List ModuleVersion) × Gives (does m s (list n)) n l × Least l
-    -- and the sheet slice holds just what is reached, and then blanks
-    pub list-reached : (n : Lent) (places rows : ℕ) → does m s (list n) .reply ≡ counted places rows → (sheet : List Place) × (places ≡ length sheet)
-        × (does m s (list n) .slices .sheet ≡ filled blank-place (n .sheet) sheet) × ((x : ModuleVersion) → x ∈ module-versions sheet ↔ Reached m s x)
+    -- the sheet slice, if long enough, holds places that each came from an earlier one, as far as was walked, and then blanks; and if the list
+    -- is given, just what is reached
+    pub list-sheet : (n : Lent) → long-enough n ≡ true → (sheet : List Place) × (does m s (list n) .slices .sheet ≡ filled blank-place (n .sheet) sheet) × List-sheet m s sheet
+        × ((places rows : ℕ) → does m s (list n) .reply ≡ counted places rows → (places ≡ length sheet) × ((x : ModuleVersion) → x ∈ module-versions sheet ↔ Reached m s x))
     -- of all that is reached only the main row is on the main path
     pub main-alone : (x : ModuleVersion) → Reached m s x → x .path ≡ s .main → x ≡ main-row s
     -- a refusal in slices long enough shows why: by a module version for which no list is to be had, or by there being more than 256
@@ -96,13 +128,17 @@ module _ (m : Meaning) (s : State) where
     pub refusal-deserved : (n : Lent) → long-enough n ≡ true → Few m s → Deserved (does m s (list n))
     -- where a list is refused, a lower does just what the list does
     pub lower-lists-first : (p v : Bytes) (n : Lent) → Refused (does m s (list n)) → does m s (lower p v n) ≡ does m s (list n)
-    -- where a list is given that has the path nowhere above the version, after the main row, there is nothing to lower, and the slices are
-    -- as the list leaves them
-    pub lower-idle : (p v : Bytes) (n : Lent) → Counted (does m s (list n)) → (l : List ModuleVersion) × Gives (does m s (list n)) n l
-        × (((x : ModuleVersion) → x ∈ after-main l → x .path ≡ p → Below v (x .version) → ⊥)
-        → (does m s (lower p v n) .reply ≡ refused (refusal-for nothing-to-change)) × (does m s (lower p v n) .slices ≡ does m s (list n) .slices))
+    -- where a list is given that does not have the path above the version, there is nothing to lower, and the slices are as the list leaves them
+    pub lower-idle : (p v : Bytes) (n : Lent) (l : List ModuleVersion) → Gives (does m s (list n)) n l → (Stands-above p v l → ⊥)
+        → (does m s (lower p v n) .reply ≡ refused (refusal-for nothing-to-change)) × (does m s (lower p v n) .slices ≡ does m s (list n) .slices)
+    -- and where it has, a lower is accepted or shows why it is not
+    pub lower-shown : (p v : Bytes) (n : Lent) (l : List ModuleVersion) → Gives (does m s (list n)) n l → Stands-above p v l → Lowering p v n l (does m s (lower p v n))
+    pub lower-accepted : (p v : Bytes) (n : Lent) → Counted (does m s (lower p v n)) ↔ Lowerable p v n
     -- an accepted lower is worth what is said above
     pub lower-kept : (p v : Bytes) (n : Lent) → Counted (does m s (lower p v n)) → Lowered p v n (does m s (lower p v n))
+    -- in slices that are too short a list and a lower are refused, and both slices are blank
+    pub list-short : (n : Lent) → Too-short n → Turned-away n (does m s (list n))
+    pub lower-short : (p v : Bytes) (n : Lent) → Too-short n → Turned-away n (does m s (lower p v n))
     -- slices stay as long as they are, and a list changes no state
     pub list-lengths : (n : Lent) → (length (does m s (list n) .slices .sheet) ≡ n .sheet) × (length (does m s (list n) .slices .list) ≡ n .list)
     pub lower-lengths : (p v : Bytes) (n : Lent) → (length (does m s (lower p v n) .slices .sheet) ≡ n .sheet) × (length (does m s (lower p v n) .slices .list) ≡ n .list)

@@ -2,7 +2,8 @@
 -- and then blanks. Both must have 256 places at least. Assumes nothing.
 use mathlib.Core.Bool.{Bool, _&&_}
 use mathlib.Core.List.{List, _++_}
-use Prim.Native.Nat.{ℕ, _-_}
+use mathlib.Core.Logic.{_⊎_}
+use Prim.Native.Nat.{ℕ, _-_, _<_}
 use lib.Chars.{codes}
 use lib.Dec.{leb}
 use lib.ListN.{length, take, replicate}
@@ -28,6 +29,10 @@ pub record Lent : Type 0 where
 -- both have 256 places at least
 abbrev pub long-enough : Lent → Bool
 long-enough n = leb 256 (n .sheet) && leb 256 (n .list)
+
+-- one of them has fewer
+abbrev pub Too-short : Lent → Type 0
+Too-short n = (n .sheet < 256) ⊎ (n .list < 256)
 
 -- what the two slices hold
 pub record Slices : Type 0 where

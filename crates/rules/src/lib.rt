@@ -4,9 +4,10 @@ ghost use Rattle.rules.specs.Names.{Orders-right};
 ghost use Rattle.rules.specs.Tables.{Tables-right};
 ghost use Rattle.rules.specs.Layers.{Layer-right, Fallback-right, Two-layers-right, Pile-right};
 ghost use Rattle.rules.specs.Questions.{Questions-right};
+ghost use Rattle.rules.specs.Sheets.{Sheet-stands};
 ghost use Rattle.rules.specs.Lists.{List-right};
 ghost use Rattle.rules.specs.Faults.{Refusal-right};
-ghost use Rattle.rules.specs.Lowers.{Lower-right, Kept-meant};
+ghost use Rattle.rules.specs.Lowers.{Lower-right, Kept-meant, Sets-right};
 ghost use Rattle.rules.specs.Runs.{Runs-right, Tidy-right};
 ghost use Rattle.rules.specs.Changes.{Changes-right};
 ghost use Rattle.rules.specs.Examples.{Examples};
@@ -60,6 +61,13 @@ pub fn questions_stand() -> u8
     0
 }
 
+// On the sheet of a list each place came from an earlier one, and the from numbers lead back along a chain.
+pub fn sheet_stands() -> u8
+    ensures { λ _. ⌜ Sheet-stands ⌝ }
+{
+    0
+}
+
 // A list is the one that a walk gives exactly when it is fit and nowhere above any list that is fit.
 pub fn list_stands() -> u8
     ensures { λ _. ⌜ List-right ⌝ }
@@ -77,6 +85,13 @@ pub fn refusal_stands() -> u8
 // The kept rows of a lower lie in a sound set, no sound set has an old path above them, and a list right then shows just them.
 pub fn lower_stands() -> u8
     ensures { λ _. ⌜ Lower-right ⌝ }
+{
+    0
+}
+
+// Whatever lies in a sound set fits, whichever set it is.
+pub fn sets_stand<T>() -> u8
+    ensures { λ _. ⌜ Sets-right T ⌝ }
 {
     0
 }
