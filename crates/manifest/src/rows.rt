@@ -30,7 +30,10 @@ pub(crate) fn read_row(path: &[u8], version: &[u8]) -> Result<Row, Cause>
         Some(version) => version,
         None => return Err(Cause::BadVersion),
     };
-    Ok(Row { path: path.plain(), version: version.plain() })
+    Ok(Row {
+        path: path.plain(),
+        version: version.plain(),
+    })
 }
 
 // Writes a row behind the first `count`, if there may be one more.
@@ -47,7 +50,13 @@ pub(crate) fn put(rows: &mut [Row], count: usize, most: usize, row: Row) -> Resu
 }
 
 // Reads one row more: it is checked first, and then there must be room for it.
-pub(crate) fn add_row(rows: &mut [Row], count: usize, most: usize, path: &[u8], version: &[u8]) -> Result<usize, Cause>
+pub(crate) fn add_row(
+    rows: &mut [Row],
+    count: usize,
+    most: usize,
+    path: &[u8],
+    version: &[u8],
+) -> Result<usize, Cause>
     requires { ⌜ Holds most count (now rows) ⌝ }
     ensures value { λ r. ⌜ count-told (now (rows .exit)) r ≡ row-added most (names-read count (now (rows .entry))) (now (path .entry)) (now (version .entry)) ⌝ }
     ensures items { λ r. ⌜ made r (λ n. Holds most n (now (rows .exit))) ⌝ }

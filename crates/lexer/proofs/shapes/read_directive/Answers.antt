@@ -14,7 +14,7 @@ returns-in-None c =
     let slots = c .line-words-words in
     record {
       value = slots-told None (line .number) (words (line .code .now)) (slots .result) (mapped directive-told (c .outside-block .result)) (slots .ensures .value) (c .outside-block .ensures .value)
-        ∙ sym (ap (λ b. directive (mapped verb-told b) (words (line .code .now))) (c .in-None .is));
+          ∙ sym (ap (λ b. directive (mapped verb-told b) (words (line .code .now))) (c .in-None .is));
     }
 
 pub returns-in-Some : need.returns-in-Some
@@ -23,5 +23,5 @@ returns-in-Some c =
     let slots = c .line-words-words in
     record {
       value = slots-told (Some (verb-told (c .in-Some .verb))) (line .number) (words (line .code .now)) (slots .result) (mapped directive-told (c .in-block .result)) (slots .ensures .value) (c .in-block .ensures .value)
-        ∙ sym (ap (λ b. directive (mapped verb-told b) (words (line .code .now))) (c .in-Some .is));
+          ∙ sym (ap (λ b. directive (mapped verb-told b) (words (line .code .now))) (c .in-Some .is));
     }

@@ -12,8 +12,8 @@ returns-in-Err-add-row c =
     let told = view (c .args .required .now) (c .args .excluded .now) p in
     record {
       value =
-        not-added (c .args .most) (names-read (p .required) (c .args .required .now)) (with-required told) (c .in-Require .path .now) (c .in-Require .version .now) _ (c .in-Err-add-row .ensures tt .value)
-        ∙ sym (ap (λ d. obeyed (c .args .most) told (directive-told d)) (c .in-Require .is));
+          not-added (c .args .most) (names-read (p .required) (c .args .required .now)) (with-required told) (c .in-Require .path .now) (c .in-Require .version .now) _ (c .in-Err-add-row .ensures tt .value)
+          ∙ sym (ap (λ d. obeyed (c .args .most) told (directive-told d)) (c .in-Require .is));
       items = tt;
     }
 
@@ -23,7 +23,7 @@ returns-in-Err-add-row-2 c =
     let told = view (c .args .required .now) (c .args .excluded .now) p in
     record {
       value =
-        not-added 32 (names-read (p .excluded) (c .args .excluded .now)) (with-excluded told) (c .in-Exclude .path .now) (c .in-Exclude .version .now) _ (c .in-Err-add-row-2 .ensures tt .value)
-        ∙ sym (ap (λ d. obeyed (c .args .most) told (directive-told d)) (c .in-Exclude .is));
+          not-added 32 (names-read (p .excluded) (c .args .excluded .now)) (with-excluded told) (c .in-Exclude .path .now) (c .in-Exclude .version .now) _ (c .in-Err-add-row-2 .ensures tt .value)
+          ∙ sym (ap (λ d. obeyed (c .args .most) told (directive-told d)) (c .in-Exclude .is));
       items = tt;
     }

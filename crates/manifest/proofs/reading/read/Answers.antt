@@ -21,6 +21,6 @@ returns-in-Ok c =
       value = search needs;
       items = search needs;
       formed = subst (λ n. Well-formed n (manifest-in rs es m)) (c .most-most .ensures .value)
-        (formed-in most text m (c .blank-all .last .rows) (c .blank-all-2 .last .rows) rs es (lines-read most 0 unbegun (lines text))
-        (cond-true _ _ _ (le-leb (length text) 32768 (c .if-text-gt-LONGEST .left))) (told .value) (told .items .0) (told .items .1));
+          (formed-in most text m (c .blank-all .last .rows) (c .blank-all-2 .last .rows) rs es (lines-read most 0 unbegun (lines text))
+          (cond-true _ _ _ (le-leb (length text) 32768 (c .if-text-gt-LONGEST .left))) (told .value) (told .items .0) (told .items .1));
     }
