@@ -47,9 +47,7 @@ fn has_good_bytes(code: &[u8]) -> bool
 fn read_main(main: Option<Path>, path: &[u8]) -> Result<Path, Cause>
     ensures value { λ r. ⌜ main-told r ≡ main-read (mapped path-bytes main) (now (path .entry)) ⌝ }
 {
-    let Some(path) = Path::check(path) else {
-        return Err(Cause::BadPath);
-    };
+    let path = Path::check(path).ok_or(Cause::BadPath)?;
     if main.is_some() {
         return Err(Cause::ModuleLine);
     }
@@ -70,39 +68,24 @@ fn obey(
 {
     match directive {
         Directive::Passed | Directive::Go(_) => Ok(progress),
-        Directive::Names(path) => match read_main(progress.main, path) {
-            Ok(main) => Ok(Progress {
-                main: Some(main),
+        Directive::Names(path) => {
+            let main = Some(read_main(progress.main, path)?);
+            Ok(Progress { main, ..progress })
+        }
+        Directive::Require(path, version) => {
+            let required = add_row(required, progress.required, most, path, version)?;
+            Ok(Progress {
+                required,
                 ..progress
-            }),
-            Err(cause) => Err(cause),
-        },
-        Directive::Require(path, version) => match add_row(
-            required,
-            progress.required,
-            most,
-            path,
-            version,
-        ) {
-            Ok(count) => Ok(Progress {
-                required: count,
+            })
+        }
+        Directive::Exclude(path, version) => {
+            let excluded = add_row(excluded, progress.excluded, MOST_EXCLUDED, path, version)?;
+            Ok(Progress {
+                excluded,
                 ..progress
-            }),
-            Err(cause) => Err(cause),
-        },
-        Directive::Exclude(path, version) => match add_row(
-            excluded,
-            progress.excluded,
-            MOST_EXCLUDED,
-            path,
-            version,
-        ) {
-            Ok(count) => Ok(Progress {
-                excluded: count,
-                ..progress
-            }),
-            Err(cause) => Err(cause),
-        },
+            })
+        }
         Directive::Opens(verb) => Ok(Progress {
             block: Some(verb),
             ..progress

@@ -22,14 +22,8 @@ pub(crate) fn blank_all(rows: &mut [Row])
 pub(crate) fn read_row(path: &[u8], version: &[u8]) -> Result<Row, Cause>
     ensures value { λ r. ⌜ row-told r ≡ row-read (now (path .entry)) (now (version .entry)) ⌝ }
 {
-    let path = match Path::check(path) {
-        Some(path) => path,
-        None => return Err(Cause::BadPath),
-    };
-    let version = match Version::check(version) {
-        Some(version) => version,
-        None => return Err(Cause::BadVersion),
-    };
+    let path = Path::check(path).ok_or(Cause::BadPath)?;
+    let version = Version::check(version).ok_or(Cause::BadVersion)?;
     Ok(Row {
         path: path.plain(),
         version: version.plain(),
@@ -61,8 +55,6 @@ pub(crate) fn add_row(
     ensures value { λ r. ⌜ count-told (now (rows .exit)) r ≡ row-added most (names-read count (now (rows .entry))) (now (path .entry)) (now (version .entry)) ⌝ }
     ensures items { λ r. ⌜ made r (λ n. Holds most n (now (rows .exit))) ⌝ }
 {
-    match read_row(path, version) {
-        Ok(row) => put(rows, count, most, row),
-        Err(cause) => Err(cause),
-    }
+    let row = read_row(path, version)?;
+    put(rows, count, most, row)
 }
