@@ -19,12 +19,12 @@ use Rattle.lexer.specs.declared.slots.LineWords.{LineWords}
 use Rattle.lexer.specs.Told.{word-of, word-told, next-word}
 use Rattle.lexer.specs.Shapes.{behind-words, verb-words, block-words, opening-words, closing-words, outside-words, inside-words, shape-words}
 
-abbrev pub first-word : List R.Word → Option R.Word
+abbrev first-word : List R.Word → Option R.Word
 first-word [] = None
 first-word (w ∷ ws) = Some w
 
 -- the word of a slot
-pub slot-word : (o : Option Word) (n : ℕ) (ws : List R.Word) → mapped word-told o ≡ next-word n ws → mapped word-of o ≡ first-word ws
+slot-word : (o : Option Word) (n : ℕ) (ws : List R.Word) → mapped word-told o ≡ next-word n ws → mapped word-of o ≡ first-word ws
 slot-word o n ws e = again o ∙ ap (mapped (λ (x : ℕ × R.Word). x .1)) e ∙ first n ws
   where
     again : (p : Option Word) → mapped word-of p ≡ mapped (λ (x : ℕ × R.Word). x .1) (mapped word-told p)
@@ -115,7 +115,7 @@ marks-inside verb (opening ∷ ws) e = refl
 marks-inside verb (closing ∷ []) e = refl
 marks-inside verb (closing ∷ w ∷ ws) e = refl
 
-pub shaped : (block : Option Verb) (ws : List R.Word) → slots-shape block (not (isSome (plain ws))) ws ≡ directive block ws
+shaped : (block : Option Verb) (ws : List R.Word) → slots-shape block (not (isSome (plain ws))) ws ≡ directive block ws
 shaped block ws = go block (plain ws) refl
   where
     go : (b : Option Verb) (o : Option (List Bytes)) → plain ws ≡ o → slots-shape b (not (isSome o)) ws ≡ directive b ws
@@ -124,7 +124,7 @@ shaped block ws = go block (plain ws) refl
     go None None e = marks-outside ws e
     go (Some verb) None e = marks-inside verb ws e
 
-pub slots-shaped : (block : Option Verb) (n : ℕ) (ws : List R.Word) (w : LineWords) → Slots n ws w
+slots-shaped : (block : Option Verb) (n : ℕ) (ws : List R.Word) (w : LineWords) → Slots n ws w
     → shape-words block (w .bracket) (mapped word-of (w .first)) (mapped word-of (w .second)) (mapped word-of (w .third)) (mapped word-of (w .fourth)) ≡ directive block ws
 slots-shaped block n ws w s =
     rw (
@@ -135,3 +135,9 @@ slots-shaped block n ws w s =
       slot-word (w .fourth) n (but-first (two-on ws)) (s .fourth),
     )
     (shaped block ws)
+
+-- what the slots make is what the line asks for
+pub slots-told : (block : Option Verb) (n : ℕ) (ws : List R.Word) (w : LineWords) (d : Option Directive) → Slots n ws w
+    → d ≡ shape-words block (w .bracket) (mapped word-of (w .first)) (mapped word-of (w .second)) (mapped word-of (w .third)) (mapped word-of (w .fourth))
+    → d ≡ directive block ws
+slots-told block n ws w d s e = e ∙ slots-shaped block n ws w s

@@ -36,8 +36,8 @@ gaps-end [] h = absurd (omega arith)
 gaps-end (b ∷ bs) h =
     ⊎-elim
     (λ (e : gap b ≡ true).
-        let on : drop (leading gap (b ∷ bs)) (b ∷ bs) ≡ drop (leading gap bs) bs = ap (λ n. drop n (b ∷ bs)) (leads gap b bs e) in
-        ap (λ l. gap (getD l 0 0)) on ∙ gaps-end bs (omega (arith, ap length on)))
+    let on : drop (leading gap (b ∷ bs)) (b ∷ bs) ≡ drop (leading gap bs) bs = ap (λ n. drop n (b ∷ bs)) (leads gap b bs e) in
+    ap (λ l. gap (getD l 0 0)) on ∙ gaps-end bs (omega (arith, ap length on)))
     (λ (e : gap b ≡ false). ap (λ n. gap (getD (drop n (b ∷ bs)) 0 0)) (stops gap b bs e) ∙ e)
     (cases-bool (gap b))
 
@@ -57,9 +57,9 @@ word-cut b [] e = at-word-byte b [] e ∙ ap (λ n. cut n (b ∷ [])) (sym (lead
 word-cut b (x ∷ xs) e =
     at-word-byte b (x ∷ xs) e
     ∙ ⊎-elim
-      (λ (f : word-byte x ≡ true). ap (λ t. lengthened b t (words (x ∷ xs))) f ∙ ap (lengthened b true) (word-cut x xs f))
-      (λ (f : word-byte x ≡ false). ap (λ t. lengthened b t (words (x ∷ xs))) f ∙ ap (λ n. cut (suc n) (b ∷ x ∷ xs)) (sym (stops word-byte x xs f)))
-      (cases-bool (word-byte x))
+    (λ (f : word-byte x ≡ true). ap (λ t. lengthened b t (words (x ∷ xs))) f ∙ ap (lengthened b true) (word-cut x xs f))
+    (λ (f : word-byte x ≡ false). ap (λ t. lengthened b t (words (x ∷ xs))) f ∙ ap (λ n. cut (suc n) (b ∷ x ∷ xs)) (sym (stops word-byte x xs f)))
+    (cases-bool (word-byte x))
     ∙ ap (λ n. cut n (b ∷ x ∷ xs)) (sym (leads word-byte b (x ∷ xs) e))
 
 -- s is what is left of the line, n how many gaps it begins with, and r what is left behind them, as the checker reads it

@@ -2,7 +2,7 @@
 // from the first two slashes of a line to its end. Space, tab and carriage return part words, and a bracket is a word by itself. Nothing is
 // copied: lines and words borrow the text.
 pub mod lines;
-pub mod words;
+pub mod shapes;
 pub mod slots;
 pub mod verbs;
-pub mod shapes;
+pub mod words;

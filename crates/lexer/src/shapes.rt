@@ -30,14 +30,21 @@ pub enum Directive<'a> {
 }
 
 // The words behind a verb, or of a line in its block, none of them a bracket: one for `module` and `go`, two for a row, any for another verb.
-fn behind_verb<'a>(verb: Verb, a: Option<Word<'a>>, b: Option<Word<'a>>, c: Option<Word<'a>>) -> Option<Directive<'a>>
+fn behind_verb<'a>(
+    verb: Verb,
+    a: Option<Word<'a>>,
+    b: Option<Word<'a>>,
+    c: Option<Word<'a>>,
+) -> Option<Directive<'a>>
     ensures value { λ r. ⌜ mapped directive-told r ≡ behind-words (verb-told verb) (mapped word-of (a .entry)) (mapped word-of (b .entry)) (mapped word-of (c .entry)) ⌝ }
 {
     match (verb, a, b, c) {
         (Verb::Module, Some(Word::Text(path, _)), None, _) => Some(Directive::Names(path)),
         (Verb::Go, Some(Word::Text(word, _)), None, _) => Some(Directive::Go(word)),
-        (Verb::Require, Some(Word::Text(path, _)), Some(Word::Text(version, _)), None) => Some(Directive::Require(path, version)),
-        (Verb::Exclude, Some(Word::Text(path, _)), Some(Word::Text(version, _)), None) => Some(Directive::Exclude(path, version)),
+        (Verb::Require, Some(Word::Text(path, _)), Some(Word::Text(version, _)), None) =>
+            Some(Directive::Require(path, version)),
+        (Verb::Exclude, Some(Word::Text(path, _)), Some(Word::Text(version, _)), None) =>
+            Some(Directive::Exclude(path, version)),
         (Verb::Other, _, _, _) => Some(Directive::Passed),
         _ => None,
     }
@@ -58,7 +65,12 @@ fn verb_line<'a>(words: LineWords<'a>) -> Option<Directive<'a>>
     ensures value { λ r. ⌜ mapped directive-told r ≡ verb-words (mapped word-of (words .entry .first)) (mapped word-of (words .entry .second)) (mapped word-of (words .entry .third)) (mapped word-of (words .entry .fourth)) ⌝ }
 {
     match words.first {
-        Some(Word::Text(verb, _)) => behind_verb(read_verb(verb), words.second, words.third, words.fourth),
+        Some(Word::Text(verb, _)) => behind_verb(
+            read_verb(verb),
+            words.second,
+            words.third,
+            words.fourth,
+        ),
         Some(_) => None,
         None => Some(Directive::Passed),
     }

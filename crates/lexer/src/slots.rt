@@ -51,5 +51,14 @@ pub fn line_words<'a>(line: Line<'a>) -> LineWords<'a>
     let fifth = cursor.next_word();
     let sixth = cursor.next_word();
     let more = cursor.next_word().is_some();
-    LineWords { first, second, third, fourth, fifth, sixth, more, bracket: has_bracket(line.code) }
+    LineWords {
+        first,
+        second,
+        third,
+        fourth,
+        fifth,
+        sixth,
+        more,
+        bracket: has_bracket(line.code),
+    }
 }

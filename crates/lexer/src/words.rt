@@ -65,7 +65,10 @@ impl<'a> Cursor<'a> {
         ensures value { λ r. ⌜ r .rest .now ≡ line .entry .code .now ⌝ }
         ensures same { λ r. ⌜ r .line ≡ line .entry .number ⌝ }
     {
-        Cursor { rest: line.code, line: line.number }
+        Cursor {
+            rest: line.code,
+            line: line.number,
+        }
     }
 
     // The next word, if there is one.

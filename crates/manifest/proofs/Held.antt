@@ -46,9 +46,9 @@ module _ (most n : ℕ) (rows : List Row) (h : Holds most n rows) where
       within = omega arith;
       room = omega (arith, h .room, length-set rows n row);
       behind =
-        ap (drop (n + 1)) (map-set row-names rows n row) ∙ drop-set-lt (n + 1) (names-in rows) n (row-names row) (omega arith)
-        ∙ sym (drop-drop 1 n (names-in rows)) ∙ ap (drop 1) (h .behind) ∙ drop-replicate 1 (length rows - n) blank
-        ∙ ap (λ k. replicate k blank) (let s = length-set rows n row in omega arith);
+          ap (drop (n + 1)) (map-set row-names rows n row) ∙ drop-set-lt (n + 1) (names-in rows) n (row-names row) (omega arith)
+          ∙ sym (drop-drop 1 n (names-in rows)) ∙ ap (drop 1) (h .behind) ∙ drop-replicate 1 (length rows - n) blank
+          ∙ ap (λ k. replicate k blank) (let s = length-set rows n row in omega arith);
     }
 
   -- what a slice holds in the end

@@ -2,3 +2,4 @@ pub mod Held
 pub mod Added
 pub mod Steps
 pub mod Ended
+pub mod Formed

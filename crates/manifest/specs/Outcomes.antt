@@ -17,7 +17,10 @@ use Rattle.modules.specs.declared.rows.Row.{Row}
 use Rattle.causes.specs.declared.refusal.Refusal.{Refusal}
 use Rattle.causes.specs.Told.{refusal-of, of-place}
 use Rattle.manifest.specs.declared.kinds.Manifest.{Manifest}
+use Rattle.manifest.specs.declared.kinds.Owner.{Owner}
 use Rattle.manifest.specs.declared.kinds.Progress.{Progress}
+use Rattle.manifest.specs.Holds.{names-read}
+use Rattle.manifest.specs.Owners.{most-rows}
 use Rattle.manifest.specs.Views.{view}
 
 -- a module path, and how many rows are required and excluded
@@ -44,9 +47,15 @@ abbrev pub exclude-rows : M.Reading → List ModuleVersion
 exclude-rows (M.manifest m) = m .excludes
 exclude-rows (M.unread c n) = []
 
--- a manifest read into slices of n and k places, which must have room for all rows that there may be
-abbrev pub asked : ℕ → ℕ → ℕ → Bytes → M.Reading
-asked most n k text = cond (leb most n && leb 32 k) (M.reading most text) (M.unread R.slice-too-short 0)
+-- a manifest read into two slices, which must have room for all rows that there may be
+abbrev pub asked : Owner → List Row → List Row → Bytes → M.Reading
+asked owner required excluded text =
+    cond (leb (most-rows owner) (length required) && leb 32 (length excluded)) (M.reading (most-rows owner) text) (M.unread R.slice-too-short 0)
+
+-- what was read, with its rows from the two slices
+abbrev pub manifest-in : List Row → List Row → Manifest → M.Manifest
+manifest-in required excluded m =
+    record { main = path-bytes (m .main); requires = names-read (m .required) required; excludes = names-read (m .excluded) excluded }
 
 -- ---- on the way
 

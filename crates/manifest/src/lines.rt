@@ -47,9 +47,7 @@ fn has_good_bytes(code: &[u8]) -> bool
 fn read_main(main: Option<Path>, path: &[u8]) -> Result<Path, Cause>
     ensures value { λ r. ⌜ main-told r ≡ main-read (mapped path-bytes main) (now (path .entry)) ⌝ }
 {
-    let Some(path) = Path::check(path) else {
-        return Err(Cause::BadPath);
-    };
+    let path = Path::check(path).ok_or(Cause::BadPath)?;
     if main.is_some() {
         return Err(Cause::ModuleLine);
     }
@@ -57,32 +55,56 @@ fn read_main(main: Option<Path>, path: &[u8]) -> Result<Path, Cause>
 }
 
 // Does what a line asks for.
-fn obey(most: usize, progress: Progress, directive: Directive<'_>, required: &mut [Row], excluded: &mut [Row]) -> Result<Progress, Cause>
+fn obey(
+    most: usize,
+    progress: Progress,
+    directive: Directive<'_>,
+    required: &mut [Row],
+    excluded: &mut [Row],
+) -> Result<Progress, Cause>
     requires { ⌜ Holds most (progress .required) (now required) ⌝ ∗ ⌜ Holds 32 (progress .excluded) (now excluded) ⌝ }
     ensures value { λ r. ⌜ viewed (now (required .exit)) (now (excluded .exit)) r ≡ obeyed most (view (now (required .entry)) (now (excluded .entry)) progress) (directive-told (directive .entry)) ⌝ }
     ensures items { λ r. ⌜ made r (λ p. Holds most (p .required) (now (required .exit)) × Holds 32 (p .excluded) (now (excluded .exit))) ⌝ }
 {
     match directive {
         Directive::Passed | Directive::Go(_) => Ok(progress),
-        Directive::Names(path) => match read_main(progress.main, path) {
-            Ok(main) => Ok(Progress { main: Some(main), ..progress }),
-            Err(cause) => Err(cause),
-        },
-        Directive::Require(path, version) => match add_row(required, progress.required, most, path, version) {
-            Ok(count) => Ok(Progress { required: count, ..progress }),
-            Err(cause) => Err(cause),
-        },
-        Directive::Exclude(path, version) => match add_row(excluded, progress.excluded, MOST_EXCLUDED, path, version) {
-            Ok(count) => Ok(Progress { excluded: count, ..progress }),
-            Err(cause) => Err(cause),
-        },
-        Directive::Opens(verb) => Ok(Progress { block: Some(verb), ..progress }),
-        Directive::Closes => Ok(Progress { block: None, ..progress }),
+        Directive::Names(path) => {
+            let main = Some(read_main(progress.main, path)?);
+            Ok(Progress { main, ..progress })
+        }
+        Directive::Require(path, version) => {
+            let required = add_row(required, progress.required, most, path, version)?;
+            Ok(Progress {
+                required,
+                ..progress
+            })
+        }
+        Directive::Exclude(path, version) => {
+            let excluded = add_row(excluded, progress.excluded, MOST_EXCLUDED, path, version)?;
+            Ok(Progress {
+                excluded,
+                ..progress
+            })
+        }
+        Directive::Opens(verb) => Ok(Progress {
+            block: Some(verb),
+            ..progress
+        }),
+        Directive::Closes => Ok(Progress {
+            block: None,
+            ..progress
+        }),
     }
 }
 
 // Reads one line more.
-pub(crate) fn read_line(most: usize, progress: Progress, line: Line<'_>, required: &mut [Row], excluded: &mut [Row]) -> Result<Progress, Cause>
+pub(crate) fn read_line(
+    most: usize,
+    progress: Progress,
+    line: Line<'_>,
+    required: &mut [Row],
+    excluded: &mut [Row],
+) -> Result<Progress, Cause>
     requires { ⌜ Holds most (progress .required) (now required) ⌝ ∗ ⌜ Holds 32 (progress .excluded) (now excluded) ⌝ }
     ensures value { λ r. ⌜ viewed (now (required .exit)) (now (excluded .exit)) r ≡ code-read most (view (now (required .entry)) (now (excluded .entry)) progress) (line .entry .code .now) ⌝ }
     ensures items { λ r. ⌜ made r (λ p. Holds most (p .required) (now (required .exit)) × Holds 32 (p .excluded) (now (excluded .exit))) ⌝ }

@@ -22,15 +22,12 @@ pub(crate) fn blank_all(rows: &mut [Row])
 pub(crate) fn read_row(path: &[u8], version: &[u8]) -> Result<Row, Cause>
     ensures value { λ r. ⌜ row-told r ≡ row-read (now (path .entry)) (now (version .entry)) ⌝ }
 {
-    let path = match Path::check(path) {
-        Some(path) => path,
-        None => return Err(Cause::BadPath),
-    };
-    let version = match Version::check(version) {
-        Some(version) => version,
-        None => return Err(Cause::BadVersion),
-    };
-    Ok(Row { path: path.plain(), version: version.plain() })
+    let path = Path::check(path).ok_or(Cause::BadPath)?;
+    let version = Version::check(version).ok_or(Cause::BadVersion)?;
+    Ok(Row {
+        path: path.plain(),
+        version: version.plain(),
+    })
 }
 
 // Writes a row behind the first `count`, if there may be one more.
@@ -47,13 +44,17 @@ pub(crate) fn put(rows: &mut [Row], count: usize, most: usize, row: Row) -> Resu
 }
 
 // Reads one row more: it is checked first, and then there must be room for it.
-pub(crate) fn add_row(rows: &mut [Row], count: usize, most: usize, path: &[u8], version: &[u8]) -> Result<usize, Cause>
+pub(crate) fn add_row(
+    rows: &mut [Row],
+    count: usize,
+    most: usize,
+    path: &[u8],
+    version: &[u8],
+) -> Result<usize, Cause>
     requires { ⌜ Holds most count (now rows) ⌝ }
     ensures value { λ r. ⌜ count-told (now (rows .exit)) r ≡ row-added most (names-read count (now (rows .entry))) (now (path .entry)) (now (version .entry)) ⌝ }
     ensures items { λ r. ⌜ made r (λ n. Holds most n (now (rows .exit))) ⌝ }
 {
-    match read_row(path, version) {
-        Ok(row) => put(rows, count, most, row),
-        Err(cause) => Err(cause),
-    }
+    let row = read_row(path, version)?;
+    put(rows, count, most, row)
 }

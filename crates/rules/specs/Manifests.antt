@@ -2,9 +2,10 @@
 -- The shapes of a line are `module PATH`, `go WORD`, `require PATH VERSION` and `exclude PATH VERSION`. A verb other than module and go, with
 -- an opening bracket as the second and last word, opens a block; in it lines have the shape without the verb, and a closing bracket alone
 -- closes it. A bracket anywhere else is a wrong shape. Lines and blocks of any other verb are passed over, brackets apart.
+use mathlib.Core.Path.{_≡_}
 use mathlib.Core.Bool.{Bool, true, false, cond, not, _&&_, _||_}
 use mathlib.Core.List.{List, [], _∷_, _++_}
-use Prim.Native.Nat.{ℕ, _+_}
+use Prim.Native.Nat.{ℕ, _+_, _≤_}
 use lib.Chars.{codes}
 use lib.Dec.{eqb, leb, ltb}
 use lib.ListN.{length}
@@ -18,7 +19,7 @@ use Rattle.rules.specs.Orders.{Bytes}
 use Rattle.rules.specs.Texts.{every}
 use Rattle.rules.specs.Paths.{is-path}
 use Rattle.rules.specs.Versions.{is-version}
-use Rattle.rules.specs.Names.{ModuleVersion}
+use Rattle.rules.specs.Names.{ModuleVersion, is-module-version, _∈_}
 use Rattle.rules.specs.Causes.{Cause, too-long, bad-byte, wrong-shape, bad-path, bad-version, module-line, row-too-many}
 use Rattle.rules.specs.Lines.{lines, code, Word, text, opening, closing, words}
 
@@ -219,3 +220,31 @@ lines-read most n p (l ∷ ls) = read-on (λ q. lines-read most (n + 1) q ls) (n
 -- A whole text of at most 32,768 bytes, with at most so many require rows: 64 in a source, 256 in a project.
 abbrev pub reading : ℕ → Bytes → Reading
 reading most bs = cond (leb (length bs) 32768) (lines-read most 0 unbegun (lines bs)) (unread too-long 0)
+
+-- ---- what is read is well formed, and what is written plainly is read back
+
+-- the names of a manifest are well formed, and it has at most so many require rows and 32 exclude rows
+pub record Well-formed (most : ℕ) (m : Manifest) : Type 0 where
+  pub main : is-path (m .main) ≡ true
+  pub requires : (x : ModuleVersion) → x ∈ m .requires → is-module-version x ≡ true
+  pub excludes : (x : ModuleVersion) → x ∈ m .excludes → is-module-version x ≡ true
+  pub require-rows : length (m .requires) ≤ most
+  pub exclude-rows : length (m .excludes) ≤ 32
+
+-- a verb, and a line feed behind what it is said of
+abbrev pub plain-line : Bytes → Bytes → Bytes
+plain-line verb rest = verb ++ 32 ∷ (rest ++ 10 ∷ [])
+
+abbrev pub row-lines : Bytes → List ModuleVersion → Bytes
+row-lines verb [] = []
+row-lines verb (x ∷ xs) = plain-line verb (x .path ++ 32 ∷ x .version) ++ row-lines verb xs
+
+-- a manifest written plainly: the module line, a require line for each row, an exclude line for each row
+abbrev pub written : Manifest → Bytes
+written m = plain-line (codes "module") (m .main) ++ (row-lines (codes "require") (m .requires) ++ row-lines (codes "exclude") (m .excludes))
+
+-- THE READING: what a text is read to is well formed and within the bounds, and the text has at most 32,768 bytes. Every such manifest is read
+-- back from its plain text, if that is short enough.
+pub record Readings-right : Type 0 where
+  pub well-formed : (most : ℕ) (bs : Bytes) (m : Manifest) → reading most bs ≡ manifest m → Well-formed most m × (length bs ≤ 32768)
+  pub read-back : (most : ℕ) (m : Manifest) → Well-formed most m → length (written m) ≤ 32768 → reading most (written m) ≡ manifest m

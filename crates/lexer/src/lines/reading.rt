@@ -46,7 +46,11 @@ impl<'a> Lines<'a> {
         ensures items { λ r. ⌜ lines-left r ≡ lines (now (text .entry)) ⌝ }
         ensures value { λ r. ⌜ r .line ≡ 0 ⌝ }
     {
-        Lines { text, at: 0, line: 0 }
+        Lines {
+            text,
+            at: 0,
+            line: 0,
+        }
     }
 
     // The next line, if there is one.
@@ -62,6 +66,9 @@ impl<'a> Lines<'a> {
         let line = first_line_of(rest);
         self.line += 1;
         self.at += line.len() + 1;
-        Some(Line { number: self.line, code: code_of(line) })
+        Some(Line {
+            number: self.line,
+            code: code_of(line),
+        })
     }
 }

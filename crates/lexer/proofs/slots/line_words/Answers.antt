@@ -5,13 +5,15 @@ use Rattle.lexer.proofs.Unbracketed.{plain-words}
 use Rattle.lexer.proofs.slots.line_words.Needs as need
 
 pub returns : need.returns
-returns c = record { value = record {
-  first = search needs;
-  second = search needs;
-  third = search needs;
-  fourth = search needs;
-  fifth = search needs;
-  sixth = search needs;
-  more = search needs;
-  bracket = c .has-bracket .ensures .value ∙ ap not (sym (plain-words (c .args .line .code .now)));
-} }
+returns c = record {
+  value = record {
+    first = search needs;
+    second = search needs;
+    third = search needs;
+    fourth = search needs;
+    fifth = search needs;
+    sixth = search needs;
+    more = search needs;
+    bracket = c .has-bracket .ensures .value ∙ ap not (sym (plain-words (c .args .line .code .now)));
+  };
+}

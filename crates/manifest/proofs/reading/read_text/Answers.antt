@@ -1,5 +1,6 @@
 -- All lines are read. Assumes nothing.
-use mathlib.Core.Path.{_≡_, sym, ap, _∙_}
+use mathlib.Core.Path.{_≡_, sym, ap₂, _∙_}
+use native.Mathlib.Omega.{arith}
 use lib.ListN.{length}
 use Rattle.std.specs.Options.{mapped}
 use Rattle.rules.specs.Lines.{lines}
@@ -26,12 +27,14 @@ returns-in-Ok c =
     let ys = names-read (p .excluded) es in
     let end = at-end (view rs es p) in
     let all : Reading = lines-read most 0 unbegun (lines (c .args .text .now)) in
+    let n : length rs ≡ length (c .args .required .now) = omega arith in
+    let j : length es ≡ length (c .args .excluded .now) = omega arith in
     let same = c .in-Ok .ensures tt .value in
     let told = c .finish .ensures .value ∙ finished block main xs ys (p .required) (p .excluded) (names-long most (p .required) rs (h .0)) (names-long 32 (p .excluded) es (h .1)) in
     record {
       value = told ∙ same-counts end all same;
       items = made-on (c .finish .result) (λ k. (
-        filled-up most (p .required) rs (h .0) ∙ ap (filled blank (length rs)) (sym (k .0) ∙ same-requires end all same),
-        filled-up 32 (p .excluded) es (h .1) ∙ ap (filled blank (length es)) (sym (k .1) ∙ same-excludes end all same),
+        filled-up most (p .required) rs (h .0) ∙ ap₂ (filled blank) n (sym (k .0) ∙ same-requires end all same),
+        filled-up 32 (p .excluded) es (h .1) ∙ ap₂ (filled blank) j (sym (k .1) ∙ same-excludes end all same),
       )) (rows-left (c .finish .result) block main xs ys told);
     }

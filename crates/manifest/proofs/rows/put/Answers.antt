@@ -7,7 +7,7 @@ pub returns-then-count-most : need.returns-then-count-most
 returns-then-count-most c = record { value = no-more (c .args .most) (c .args .count) (c .args .rows .now) (c .pre) (c .args .row) (c .if-count-most .taken); items = tt }
 
 pub returns : need.returns
-returns c = 
+returns c =
     let h = c .pre in
     record {
       value = one-more (c .args .most) (c .args .count) (c .args .rows .now) h (c .args .row) (omega (arith, h .within));

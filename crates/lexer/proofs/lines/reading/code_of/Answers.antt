@@ -17,6 +17,6 @@ pub returns : need.returns
 returns c =
     let l = c .args .line .now in
     elim (c .loop-n-test .came) [
-      then-loop-n-test·else-not-begins-with-comment w ↦ record { value = code-stops l (c .loop-n .n) (c .loop-n .inv .1) (sym (ap begins-with-comment (take-rest l (c .loop-n .n))) ∙ sym (w .if-not-begins-with-comment .ensures tt .value)) }
-    | else-loop-n-test w ↦ record { value = code-all l (c .loop-n .n) (c .loop-n .inv .1) (w .loop-n-test .left) }
+      | then-loop-n-test·else-not-begins-with-comment w ↦ record { value = code-stops l (c .loop-n .n) (c .loop-n .inv .1) (sym (ap begins-with-comment (take-rest l (c .loop-n .n))) ∙ sym (w .if-not-begins-with-comment .ensures tt .value)) }
+      | else-loop-n-test w ↦ record { value = code-all l (c .loop-n .n) (c .loop-n .inv .1) (w .loop-n-test .left) }
     ]

@@ -21,6 +21,6 @@ pub returns : need.returns
 returns c =
     let bs = c .args .rest .now in
     elim (c .loop-n-test .came) [
-      then-loop-n-test·else-rest-n-ne10 w ↦ record { value = ends bs (c .loop-n .n) (c .loop-n .inv .1) (leading-drop-no in-line bs (c .loop-n .n) 0 (w .loop-n-test .taken) (search needs)) }
-    | else-loop-n-test w ↦ record { value = ends bs (c .loop-n .n) (c .loop-n .inv .1) (leading-drop-all in-line bs (c .loop-n .n) (w .loop-n-test .left)) }
+      | then-loop-n-test·else-rest-n-ne10 w ↦ record { value = ends bs (c .loop-n .n) (c .loop-n .inv .1) (leading-drop-no in-line bs (c .loop-n .n) 0 (w .loop-n-test .taken) (search needs)) }
+      | else-loop-n-test w ↦ record { value = ends bs (c .loop-n .n) (c .loop-n .inv .1) (leading-drop-all in-line bs (c .loop-n .n) (w .loop-n-test .left)) }
     ]
