@@ -3,3 +3,4 @@ pub mod Telling
 pub mod Lookups
 pub mod Admitted
 pub mod Layered
+pub mod Joined

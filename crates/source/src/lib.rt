@@ -2,7 +2,9 @@
 // versions of a path. Each answers in a slice that the caller lends: with how many it found, or with a fault; and what it means never changes.
 pub mod exclude;
 pub mod exclusions;
+pub mod fallback;
 pub mod fault;
+mod joining;
 pub mod lent;
 pub mod questions;
 pub mod slices;
