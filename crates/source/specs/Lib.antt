@@ -1,0 +1,4 @@
+pub mod Answers
+pub mod Excluded
+pub mod Layers
+pub mod Falling
