@@ -245,6 +245,7 @@ examples = record {
   version = refl;
   newer = refl;
   paths = refl;
+  readings = refl;
   calls = refl;
   lawful = sources-lawful;
   fallback = λ first second x e. ap (λ a. passed-up (or-else a (second .requirements x))) e;

@@ -26,7 +26,8 @@ use Rattle.rules.specs.Lists.{list-of}
 use Rattle.rules.specs.Faults.{Stopped, Broken, Shown-on}
 use Rattle.rules.specs.Lowers.{after-main, can-lower, Stands-above, ceilings, offers, Listed, Offered, Faultless, Few-met, Many-met, lower-walk, kept-rows, old-list, ceilings-at, Lower-stopped}
 use Rattle.rules.specs.Slices.{blank, blank-place, Lent, long-enough, Too-short, filled, holding}
-use Rattle.rules.specs.Calls.{manifest, unread, Call, load, raise, drop, exclude, lower, list, counted, refused, Outcome, refusal-for, refusal-at, refuses, unless, raised, dropped, excluded, replied, if-done, if-long-enough, lists, lowers-nothing, lowers-by, lowers, does}
+use Rattle.rules.specs.Manifests.{manifest, unread}
+use Rattle.rules.specs.Calls.{Call, load, raise, drop, exclude, lower, list, counted, refused, Outcome, refusal-for, refusal-at, refuses, unless, raised, dropped, excluded, replied, if-done, if-long-enough, lists, lowers-nothing, lowers-by, lowers, does}
 use Rattle.rules.specs.Runs.{after, fresh, Gives, Counted, Refused, Turned-away, fault-of, Least, Deserved, Overfull, Lowerable, Lowering, Lowered, Runs-right}
 use Rattle.rules.proofs.Order.{equal-from-test, test-from-equal, before-from-less, paths, versions}
 use Rattle.rules.proofs.Sheets.{short-256, first-was, first-distinct}

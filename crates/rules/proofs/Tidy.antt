@@ -23,7 +23,8 @@ use Rattle.rules.specs.Projects.{State, view, with-rows, with-exclusions}
 use Rattle.rules.specs.Walks.{module-versions, End, done, stopped, no-room, list-walk}
 use Rattle.rules.specs.Lowers.{can-lower, lower-walk, kept-rows, old-list, ceilings-at}
 use Rattle.rules.specs.Slices.{Lent, long-enough, holding}
-use Rattle.rules.specs.Calls.{manifest, unread, Call, load, raise, drop, exclude, lower, list, refused, Outcome, refusal-for, refuses, unless, raised, dropped, excluded, if-done, if-long-enough, lists, lowers-nothing, lowers-by, lowers, does}
+use Rattle.rules.specs.Manifests.{manifest, unread}
+use Rattle.rules.specs.Calls.{Call, load, raise, drop, exclude, lower, list, refused, Outcome, refusal-for, refuses, unless, raised, dropped, excluded, if-done, if-long-enough, lists, lowers-nothing, lowers-by, lowers, does}
 use Rattle.rules.specs.Runs.{after, fresh, Tidy, In-bounds, Tidy-right}
 use Rattle.rules.proofs.Order.{paths}
 use Rattle.rules.proofs.Order as order

@@ -15,22 +15,12 @@ use Rattle.rules.specs.Versions.{version-order}
 use Rattle.rules.specs.Names.{ModuleVersion, has}
 use Rattle.rules.specs.Rows.{row-of, with-row, without-row, table, with-exclusion, exclusion-table}
 use Rattle.rules.specs.Causes.{Cause, slice-too-short, too-many-module-versions, table-full, nothing-to-change, Fault, Refusal}
+use Rattle.rules.specs.Manifests.{Reading, manifest, unread}
 use Rattle.rules.specs.Sources.{Meaning}
 use Rattle.rules.specs.Projects.{State, with-exclusions, view, with-rows}
 use Rattle.rules.specs.Walks.{End, done, stopped, no-room, list-walk}
 use Rattle.rules.specs.Lowers.{can-lower, lower-walk, kept-rows, old-list, ceilings-at}
 use Rattle.rules.specs.Slices.{Lent, long-enough, Slices, holding}
-
--- what a manifest's text says
-pub record Manifest : Type 0 where
-  pub main : Bytes
-  pub requires : List ModuleVersion
-  pub excludes : List ModuleVersion
-
--- what reading a text gave: a manifest, or a cause and the line of which it speaks
-pub data Reading : Type 0 where
-  manifest : Manifest → Reading
-  unread : Cause → ℕ → Reading
 
 pub data Call : Type 0 where
   load : Reading → Call

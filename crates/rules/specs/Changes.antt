@@ -13,7 +13,8 @@ use Rattle.rules.specs.Causes.{Cause, table-full, nothing-to-change}
 use Rattle.rules.specs.Sources.{Meaning}
 use Rattle.rules.specs.Projects.{State, Only-rows-change, Only-exclusions-change}
 use Rattle.rules.specs.Lists.{Nowhere-above}
-use Rattle.rules.specs.Calls.{Manifest, manifest, unread, Call, load, raise, drop, exclude, accepted, refused, Outcome, refusal-for, does}
+use Rattle.rules.specs.Manifests.{Manifest, manifest, unread}
+use Rattle.rules.specs.Calls.{Call, load, raise, drop, exclude, accepted, refused, Outcome, refusal-for, does}
 use Rattle.rules.specs.Runs.{after, fresh, In-bounds}
 
 abbrev pub Accepted : Outcome → Type 0

@@ -23,7 +23,9 @@ use Rattle.rules.specs.Sources.{Answer, found, fault, Meaning, missing-here, f
 use Rattle.rules.specs.Projects.{State}
 use Rattle.rules.specs.Walks.{Place}
 use Rattle.rules.specs.Slices.{blank, Lent}
-use Rattle.rules.specs.Calls.{Call, manifest, unread, load, raise, drop, exclude, lower, list, Reply, accepted, counted, refused, Outcome, refusal-for}
+use Rattle.rules.specs.Manifests.{manifest, unread, reading}
+use Rattle.rules.specs.ManifestExamples.{texts}
+use Rattle.rules.specs.Calls.{Call, load, raise, drop, exclude, lower, list, Reply, accepted, counted, refused, Outcome, refusal-for}
 use Rattle.rules.specs.Runs.{fresh, outcome}
 
 -- ---- texts
@@ -435,6 +437,8 @@ pub record Examples : Type 0 where
   pub version : map is-version some-versions ≡ replicate 16 true
   pub newer : map (λ c. is-newer (c .0) (c .1)) newer-texts ≡ map (λ c. c .2) newer-texts
   pub paths : map (λ c. is-path (c .0)) path-texts ≡ map (λ c. c .1) path-texts
+  -- manifests, with room for two require rows
+  pub readings : map (λ t. reading 2 (t .0)) texts ≡ map (λ t. t .1) texts
   pub calls : map sees cases ≡ map (λ c. c .3) cases
   pub lawful : All (λ c. Lawful (c .0)) cases
   -- a fallback gives the fault of its first source, of cause 3 and place 2, one deeper, whatever its second holds

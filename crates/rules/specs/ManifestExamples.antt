@@ -1,12 +1,11 @@
--- Worked manifests, computed. Assumes nothing.
-use mathlib.Core.Path.{_≡_}
+-- Worked manifests: texts, with what reading them gives. Examples computes them. Assumes nothing.
 use mathlib.Core.List.{List, [], _∷_, _++_, map}
 use Prim.Native.Nat.{ℕ}
 use lib.Chars.{codes}
 use Rattle.rules.specs.Orders.{Bytes}
 use Rattle.rules.specs.Names.{ModuleVersion}
 use Rattle.rules.specs.Causes.{bad-byte, wrong-shape, bad-path, bad-version, module-line, row-too-many}
-use Rattle.rules.specs.Manifests.{Manifest, Reading, manifest, unread, reading}
+use Rattle.rules.specs.Manifests.{Manifest, Reading, manifest, unread}
 
 abbrev pub row : Bytes → Bytes → ModuleVersion
 row p v = record { path = p; version = v }
@@ -33,6 +32,3 @@ texts =
     ∷ (codes "module m\nretract (\n", unread wrong-shape 0)
     ∷ (codes "module m\nrequire (\na v1.0.0\na v1.0.0\na v1.0.0\n)", unread row-too-many 5)
     ∷ []
-
-pub record Manifests-read : Type 0 where
-  pub readings : map (λ t. reading 2 (t .0)) texts ≡ map (λ t. t .1) texts

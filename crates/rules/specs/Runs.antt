@@ -20,7 +20,8 @@ use Rattle.rules.specs.Lists.{Is-list, Least-fit}
 use Rattle.rules.specs.Faults.{Broken, Shown-on}
 use Rattle.rules.specs.Lowers.{Stands-above, ceilings, On-old-path, Listed, Offered, Met, Faultless, Few-met, Many-met, Kept-right, Lower-sheet, Lower-stopped}
 use Rattle.rules.specs.Slices.{blank, blank-place, Lent, long-enough, Too-short, filled}
-use Rattle.rules.specs.Calls.{manifest, unread, Call, load, raise, drop, exclude, lower, list, counted, refused, Outcome, refusal-for, does}
+use Rattle.rules.specs.Manifests.{manifest, unread}
+use Rattle.rules.specs.Calls.{Call, load, raise, drop, exclude, lower, list, counted, refused, Outcome, refusal-for, does}
 
 -- a fresh project
 abbrev pub fresh : State

@@ -12,7 +12,6 @@ ghost use Rattle.rules.specs.Runs.{Runs-right, Tidy-right};
 ghost use Rattle.rules.specs.Changes.{Changes-right};
 ghost use Rattle.rules.specs.Examples.{Examples};
 ghost use Rattle.rules.specs.Manifests.{Readings-right};
-ghost use Rattle.rules.specs.ManifestExamples.{Manifests-read};
 
 // The orders of paths, versions and module versions obey the laws; versions stand by precedence, and what is no version is below them all.
 pub fn orders_stand() -> u8
@@ -136,13 +135,6 @@ pub fn examples_stand() -> u8
 // What a text is read to is well formed and within the bounds, and every such manifest is read back from its plain text.
 pub fn readings_stand() -> u8
     ensures { λ _. ⌜ Readings-right ⌝ }
-{
-    0
-}
-
-// What worked manifests are read to.
-pub fn manifest_examples_stand() -> u8
-    ensures { λ _. ⌜ Manifests-read ⌝ }
 {
     0
 }
