@@ -14,6 +14,7 @@ use versions::version::VersionPartialEq;
 
 pub mod checks;
 pub mod orders;
+pub mod values;
 
 #[derive(Clone, Copy, PartialEq, Eq, Debug)]
 pub struct Row {

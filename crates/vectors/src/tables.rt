@@ -21,9 +21,9 @@ use versions::version::PlainVersionPartialEq;
 
 // A text of an example is too long to be held.
 #[derive(Clone, Copy, Debug)]
-pub struct TooLong;
+pub(crate) struct TooLong;
 
-pub fn row(path: &[u8], version: &[u8]) -> Result<Row, TooLong> {
+pub(crate) fn row(path: &[u8], version: &[u8]) -> Result<Row, TooLong> {
     Row::of(path, version).ok_or(TooLong)
 }
 
@@ -42,7 +42,11 @@ fn versions_ascend() -> Result<(), Fail> {
     check(listing.add(version(b"v1.9.0")?).is_ok())?;
     check(listing.add(version(b"v1.10.0-rc.1")?).is_ok())?;
     check_eq(listing.add(version(b"v1.9.0")?), Err(NotInserted::Present))?;
-    let other = [version(b"v0.1.0")?, version(b"v1.9.0")?, version(b"v2.0.0")?];
+    let other = [
+        version(b"v0.1.0")?,
+        version(b"v1.9.0")?,
+        version(b"v2.0.0")?,
+    ];
     let Some(joined) = listing.join(&other) else {
         return Err(Fail::new("there is room"));
     };
@@ -60,7 +64,10 @@ fn requirements_one_a_path() -> Result<(), Fail> {
     let mut rows = Requirements::new();
     check(rows.add(row(b"trunk", b"v1.0.0")?).is_ok())?;
     check(rows.add(row(b"rain", b"v1.0.0")?).is_ok())?;
-    check_eq(rows.add(row(b"trunk", b"v2.0.0")?), Err(NotInserted::Present))?;
+    check_eq(
+        rows.add(row(b"trunk", b"v2.0.0")?),
+        Err(NotInserted::Present),
+    )?;
     let all = rows.as_slice();
     check(all.len() == 2)?;
     check_eq(all[0], row(b"rain", b"v1.0.0")?)?;
@@ -82,7 +89,10 @@ fn exclusions_full() -> Result<(), Fail> {
     let last = row(b"trunk", b"v0.0.0")?;
     check(exclusions.has(&last))?;
     check_eq(exclusions.add(last), Err(NotInserted::Present)).note("present comes before full")?;
-    check_eq(exclusions.add(row(b"rain", b"v0.0.0")?), Err(NotInserted::Full)).note("the 33rd")?;
+    check_eq(
+        exclusions.add(row(b"rain", b"v0.0.0")?),
+        Err(NotInserted::Full),
+    ).note("the 33rd")?;
     check(exclusions.as_slice().len() == 32)
 }
 

@@ -77,7 +77,7 @@ fn compare_numbers(a: &[u8], b: &[u8]) -> Ordering
     }
 }
 
-pub fn compare_pieces(a: &[u8], b: &[u8]) -> Ordering
+pub(crate) fn compare_pieces(a: &[u8], b: &[u8]) -> Ordering
     requires { ⌜ is-identifier (now a) ≡ true ⌝ ∗ ⌜ is-identifier (now b) ≡ true ⌝ }
     ensures { λ r. ⌜ r ≡ identifier-order (identifier (now (a .entry))) (identifier (now (b .entry))) ⌝ }
 {

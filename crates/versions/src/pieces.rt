@@ -4,7 +4,7 @@ ghost use Rattle.versions.specs.Cuts.{Begins};
 
 // Where a text is read.
 #[derive(Clone, Copy)]
-pub enum Part {
+pub(crate) enum Part {
     Numbers,
     Identifiers,
 }
@@ -12,21 +12,21 @@ pub enum Part {
 // What ends a piece, in the order that it makes: of versions that are the same up to here, one with identifiers to come is below one that
 // is over, which is below one with more pieces of the same row.
 #[derive(Clone, Copy, PartialEq, Eq, PartialOrd, Ord)]
-pub enum End {
+pub(crate) enum End {
     Dash,
     Last,
     Dot,
 }
 
 #[derive(Clone, Copy)]
-pub struct Piece<'a> {
+pub(crate) struct Piece<'a> {
     pub text: &'a [u8],
     pub end: End,
     pub rest: &'a [u8],
 }
 
 // The piece that a text begins with.
-pub fn next_piece<'a>(text: &'a [u8], part: Part) -> Piece<'a>
+pub(crate) fn next_piece<'a>(text: &'a [u8], part: Part) -> Piece<'a>
     ensures { λ r. ⌜ Begins part (now (text .entry)) (now (r .text)) (r .end) (now (r .rest)) ⌝ }
 {
     for (i, b) in text.iter().enumerate() {

@@ -114,7 +114,9 @@ impl Path {
     pub fn plain(&self) -> PlainPath
         ensures { λ r. ⌜ r ≡ now (self .entry) .plain ⌝ }
     {
-        self.plain
+        PlainPath {
+            text: self.plain.text,
+        }
     }
 
     pub fn as_bytes(&self) -> &[u8]

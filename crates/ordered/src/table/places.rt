@@ -5,7 +5,12 @@ ghost use lib.ListN.{length, take};
 ghost use Rattle.std.specs.shelf.Lists.{inserted, removed};
 
 // Moves the items from `at` on up by one place, and writes `item` at `at`.
-pub fn insert_at<T: Copy, const N: usize>(items: &mut [T; N], count: usize, at: usize, item: T)
+pub(super) fn insert_at<T: Copy, const N: usize>(
+    items: &mut [T; N],
+    count: usize,
+    at: usize,
+    item: T,
+)
     requires { ⌜ (at ≤ count) × (count < N) × (length (now items) ≡ N) ⌝ }
     ensures same { λ _. ⌜ length (now (items .exit)) ≡ N ⌝ }
     ensures after { λ _. ⌜ take (count + 1) (now (items .exit)) ≡ inserted (take count (now (items .entry))) at item ⌝ }
@@ -17,7 +22,7 @@ pub fn insert_at<T: Copy, const N: usize>(items: &mut [T; N], count: usize, at: 
 }
 
 // Moves the items behind `at` down by one place, over the one that stands there.
-pub fn remove_at<T: Copy, const N: usize>(items: &mut [T; N], count: usize, at: usize)
+pub(super) fn remove_at<T: Copy, const N: usize>(items: &mut [T; N], count: usize, at: usize)
     requires { ⌜ (at < count) × (count ≤ N) × (length (now items) ≡ N) ⌝ }
     ensures same { λ _. ⌜ length (now (items .exit)) ≡ N ⌝ }
     ensures after { λ _. ⌜ take (count - 1) (now (items .exit)) ≡ removed (take count (now (items .entry))) at ⌝ }

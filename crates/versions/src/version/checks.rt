@@ -64,7 +64,9 @@ impl Version {
     pub fn plain(&self) -> PlainVersion
         ensures { λ r. ⌜ r ≡ now (self .entry) .plain ⌝ }
     {
-        self.plain
+        PlainVersion {
+            text: self.plain.text,
+        }
     }
 
     pub fn as_bytes(&self) -> &[u8]

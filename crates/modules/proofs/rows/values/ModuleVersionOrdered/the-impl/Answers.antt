@@ -4,7 +4,7 @@ use Rattle.rules.proofs.Order.{module-versions, laws-of}
 use Rattle.names.proofs.Pulled.{pulled}
 use Rattle.modules.specs.Rows.{names-of, module-version-order}
 use Rattle.modules.proofs.Told.{same-module-version}
-use Rattle.modules.proofs.rows.orders.ModuleVersionOrdered.the-impl.Needs as need
+use Rattle.modules.proofs.rows.values.ModuleVersionOrdered.the-impl.Needs as need
 
 laws : Laws module-version-order
 laws = pulled names-of module-order (laws-of module-versions) same-module-version
