@@ -3,6 +3,6 @@
 // copied: lines and words borrow the text.
 pub mod lines;
 pub mod shapes;
-pub mod slots;
+mod slots;
 pub mod verbs;
 pub mod words;

@@ -11,15 +11,15 @@ use crate::words::Cursor;
 use crate::words::Word;
 
 #[derive(Clone, Copy)]
-pub struct LineWords<'a> {
-    pub first: Option<Word<'a>>,
-    pub second: Option<Word<'a>>,
-    pub third: Option<Word<'a>>,
-    pub fourth: Option<Word<'a>>,
-    pub fifth: Option<Word<'a>>,
-    pub sixth: Option<Word<'a>>,
-    pub more: bool,
-    pub bracket: bool,
+pub(crate) struct LineWords<'a> {
+    pub(crate) first: Option<Word<'a>>,
+    pub(crate) second: Option<Word<'a>>,
+    pub(crate) third: Option<Word<'a>>,
+    pub(crate) fourth: Option<Word<'a>>,
+    pub(crate) fifth: Option<Word<'a>>,
+    pub(crate) sixth: Option<Word<'a>>,
+    pub(crate) more: bool,
+    pub(crate) bracket: bool,
 }
 
 fn is_bracket(b: u8) -> bool
@@ -40,7 +40,7 @@ fn has_bracket(code: &[u8]) -> bool
     false
 }
 
-pub fn line_words<'a>(line: Line<'a>) -> LineWords<'a>
+pub(crate) fn line_words<'a>(line: Line<'a>) -> LineWords<'a>
     ensures value { λ r. ⌜ Slots (line .entry .number) (words (line .entry .code .now)) r ⌝ }
 {
     let mut cursor = Cursor::new(line);

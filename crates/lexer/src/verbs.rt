@@ -19,7 +19,7 @@ fn same(a: &[u8], b: &[u8]) -> bool
     a == b
 }
 
-pub fn read_verb(word: &[u8]) -> Verb
+pub(crate) fn read_verb(word: &[u8]) -> Verb
     ensures value { λ r. ⌜ verb-told r ≡ verb-of (now (word .entry)) ⌝ }
 {
     if same(word, b"module") {

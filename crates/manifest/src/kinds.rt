@@ -30,7 +30,7 @@ pub(crate) struct Progress {
 
 impl Owner {
     // How many require rows a manifest may have.
-    pub fn most(self) -> usize
+    pub(crate) fn most(self) -> usize
         ensures value { λ r. ⌜ r ≡ most-rows self ⌝ }
     {
         match self {

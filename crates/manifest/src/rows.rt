@@ -19,7 +19,7 @@ pub(crate) fn blank_all(rows: &mut [Row])
 }
 
 // The row of two words, checked from left to right.
-pub(crate) fn read_row(path: &[u8], version: &[u8]) -> Result<Row, Cause>
+fn read_row(path: &[u8], version: &[u8]) -> Result<Row, Cause>
     ensures value { λ r. ⌜ row-told r ≡ row-read (now (path .entry)) (now (version .entry)) ⌝ }
 {
     let path = Path::check(path).ok_or(Cause::BadPath)?;
@@ -31,7 +31,7 @@ pub(crate) fn read_row(path: &[u8], version: &[u8]) -> Result<Row, Cause>
 }
 
 // Writes a row behind the first `count`, if there may be one more.
-pub(crate) fn put(rows: &mut [Row], count: usize, most: usize, row: Row) -> Result<usize, Cause>
+fn put(rows: &mut [Row], count: usize, most: usize, row: Row) -> Result<usize, Cause>
     requires { ⌜ Holds most count (now rows) ⌝ }
     ensures value { λ r. ⌜ count-told (now (rows .exit)) r ≡ row-put most (names-read count (now (rows .entry))) row ⌝ }
     ensures items { λ r. ⌜ made r (λ n. Holds most n (now (rows .exit))) ⌝ }

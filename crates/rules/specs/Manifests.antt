@@ -231,7 +231,7 @@ pub record Well-formed (most : ℕ) (m : Manifest) : Type 0 where
   pub require-rows : length (m .requires) ≤ most
   pub exclude-rows : length (m .excludes) ≤ 32
 
--- a verb, and a line feed behind what it is said of
+-- a verb, a space, what stands behind the verb, and a line feed
 abbrev pub plain-line : Bytes → Bytes → Bytes
 plain-line verb rest = verb ++ 32 ∷ (rest ++ 10 ∷ [])
 

@@ -1,3 +1,4 @@
+-- One byte more is no bracket, or it is one. Assumes nothing.
 use borrow.Author.Needs.{needs}
 use Rattle.lexer.proofs.Tested.{fails-here, passes-here, passes-all}
 use Rattle.lexer.proofs.slots.has_bracket.Needs as need

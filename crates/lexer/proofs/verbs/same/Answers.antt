@@ -1,3 +1,4 @@
+-- Texts are the same if their bytes are. Assumes nothing.
 use Rattle.std.proofs.shelf.Equals.{matches-decides, sameBytes-decides}
 use Rattle.std.proofs.shelf.Ways.{same-from-decides}
 use Rattle.lexer.proofs.verbs.same.Needs as need

@@ -1,3 +1,4 @@
+-- The bytes so far are of the word. Assumes nothing.
 use Prim.Native.Nat.{_+_, _-_, _≤_}
 use mathlib.Core.Path.{_≡_}
 use lib.ListN.{length, drop}
@@ -5,7 +6,6 @@ use Rattle.std.specs.shelf.Lists.{leading}
 use Rattle.rules.specs.Lines.{word-byte}
 use Rattle.lexer.proofs.words.word_length.Given as given
 
--- the bytes so far pass
 abbrev pub Inv-loop-n : given.InvT-loop-n
 Inv-loop-n l = (l .n ≤ length (l .bytes)) × (leading word-byte (l .bytes) ≡ l .n + leading word-byte (drop (l .n) (l .bytes)))
 

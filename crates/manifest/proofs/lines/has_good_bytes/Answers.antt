@@ -1,3 +1,4 @@
+-- One byte more is good, or it is not. Assumes nothing.
 use borrow.Author.Needs.{needs}
 use Rattle.lexer.proofs.Tested.{fails-here, passes-here, passes-all}
 use Rattle.manifest.proofs.lines.has_good_bytes.Needs as need

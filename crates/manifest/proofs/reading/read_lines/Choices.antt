@@ -1,3 +1,4 @@
+-- The lines that are left, read from here, give what all lines give. Assumes nothing.
 use mathlib.Core.Path.{_≡_}
 use lib.ListN.{length}
 use Rattle.rules.specs.Lines.{lines as lines-of}
@@ -7,7 +8,6 @@ use Rattle.manifest.specs.Holds.{Holds}
 use Rattle.manifest.specs.Views.{view}
 use Rattle.manifest.proofs.reading.read_lines.Given as given
 
--- the lines that are left, read from here, give what all lines give
 abbrev pub Inv-loop-line : given.InvT-loop-line
 Inv-loop-line l =
     Holds (l .most) (l .progress .required) (l .required) × Holds 32 (l .progress .excluded) (l .excluded)

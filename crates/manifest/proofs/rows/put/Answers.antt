@@ -1,3 +1,4 @@
+-- There is room for one row more, or there is none. Assumes nothing.
 use borrow.Author.Needs.{needs}
 use Rattle.manifest.proofs.Held.{no-more, one-more, holds-more}
 use native.Mathlib.Omega.{arith}

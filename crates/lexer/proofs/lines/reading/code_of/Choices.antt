@@ -1,3 +1,4 @@
+-- The bytes so far are code. Assumes nothing.
 use Prim.Native.Nat.{_-_, _≤_}
 use mathlib.Core.Path.{_≡_}
 use mathlib.Core.List.{_++_}
@@ -5,7 +6,6 @@ use lib.ListN.{length, take, drop}
 use Rattle.rules.specs.Lines.{code}
 use Rattle.lexer.proofs.lines.reading.code_of.Given as given
 
--- the bytes so far are code
 abbrev pub Inv-loop-n : given.InvT-loop-n
 Inv-loop-n l = (l .n ≤ length (l .line)) × (code (l .line) ≡ take (l .n) (l .line) ++ code (drop (l .n) (l .line)))
 

@@ -1,3 +1,4 @@
+-- The bytes so far are of the line. Assumes nothing.
 use Prim.Native.Nat.{_+_, _-_, _≤_}
 use mathlib.Core.Path.{_≡_}
 use lib.ListN.{length, drop}
@@ -5,7 +6,6 @@ use Rattle.std.specs.shelf.Lists.{leading}
 use Rattle.lexer.specs.Cuts.{in-line}
 use Rattle.lexer.proofs.lines.reading.first_line_of.Given as given
 
--- the bytes so far are of the line
 abbrev pub Inv-loop-n : given.InvT-loop-n
 Inv-loop-n l = (l .n ≤ length (l .rest)) × (leading in-line (l .rest) ≡ l .n + leading in-line (drop (l .n) (l .rest)))
 
