@@ -225,6 +225,23 @@ module _ (m : Meaning) (s : State) where
         from : Broken m s → Refused (lists m s n)
         from b = refused-at (refusal-right-at m s .0 few .1 .1 b)
 
+  blank-right : (n : Lent) → Refused (does m s (list n)) → does m s (list n) .slices .list ≡ replicate (n .list) blank
+  unfolding does
+  blank-right n = by-width (long-enough n)
+    where
+      all-blank : filled blank (n .list) [] ≡ replicate (n .list) blank
+      all-blank = ap (λ k. replicate k blank) (sub-zero (n .list))
+
+      by-end : (e : End) → (r : Refusal) → replied e (length (list-walk m s .sheet)) (length (old-list m s)) ≡ refused r → filled blank (n .list) (if-done e (old-list m s) []) ≡ replicate (n .list) blank
+      by-end done r q = let z : _≡_ {A = ℕ} 0 1 = cc in absurd (omega arith)
+      by-end (stopped k f) r q = all-blank
+      by-end no-room r q = all-blank
+
+      by-width : (b : Bool) → Refused (cond b (lists m s n) (record { reply = refused (refusal-for slice-too-short); state = s; slices = holding n [] [] }))
+          → cond b (lists m s n) (record { reply = refused (refusal-for slice-too-short); state = s; slices = holding n [] [] }) .slices .list ≡ replicate (n .list) blank
+      by-width true (r, q) = by-end (list-walk m s .end) r q
+      by-width false h = all-blank
+
   -- a lower
 
   module _ (p v : Bytes) (n : Lent) where
@@ -496,6 +513,7 @@ runs-right m law calls = let s = after m fresh calls in record {
   main-alone = λ x r p. ⊎-elim (λ e. e) (λ off. absurd (off p)) (main-or-apart m s x r);
   refusal-shown = explains-right m s;
   refusal-deserved = deserved-right m s;
+  refused-blank = blank-right m s;
   lower-lists-first = lists-first-right m s;
   lower-idle = idle-right m s;
   lower-shown = λ p v n. shown-right m law s p v n;

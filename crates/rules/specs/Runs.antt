@@ -1,5 +1,6 @@
 -- Runs of calls from the fresh state, and the law over all of them: whatever calls were made, over every lawful meaning, a list that is given is
--- the least that is fit, a refusal is deserved and shown, and a lower keeps the highest rows that can stand together. Assumes nothing.
+-- the least that is fit, a refusal is deserved and shown, and a lower keeps the highest rows that can stand together; when a list and a lower are
+-- accepted, what each refusal shows, and what the two slices hold after each. Assumes nothing.
 use mathlib.Core.Path.{_≡_}
 use mathlib.Core.Bool.{true}
 use mathlib.Core.List.{List, [], _∷_}
@@ -126,6 +127,8 @@ module _ (m : Meaning) (s : State) where
         → Shown-on m s (does m s (list n) .slices .sheet) (r .sheet-place) (fault-of r) ⊎ ((r ≡ refusal-for too-many-module-versions) × Overfull n (does m s (list n)))
     -- while at most 256 are reached, in slices long enough, a refusal is deserved
     pub refusal-deserved : (n : Lent) → long-enough n ≡ true → Few m s → Deserved (does m s (list n))
+    -- where a list is refused, its slice is blank
+    pub refused-blank : (n : Lent) → Refused (does m s (list n)) → does m s (list n) .slices .list ≡ replicate (n .list) blank
     -- where a list is refused, a lower does just what the list does
     pub lower-lists-first : (p v : Bytes) (n : Lent) → Refused (does m s (list n)) → does m s (lower p v n) ≡ does m s (list n)
     -- where a list is given that does not have the path above the version, there is nothing to lower, and the slices are as the list leaves them
