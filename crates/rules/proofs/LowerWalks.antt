@@ -17,7 +17,7 @@ use Rattle.rules.specs.Projects.{State, main-row, view, remaining}
 use Rattle.rules.specs.Walks.{Place, module-versions, written, End, done, stopped, no-room, Walked, walk, first-sheet}
 use Rattle.rules.specs.Lowers.{Above, offers, Listed, Offered, Ahead, Offers-first, Missing, Passes, Met, offered, passed, Faultless, Few-met, Many-met, lower-ask, lower-walk, Lower-sheet, Lower-stopped, at-listing, at-place}
 use Rattle.rules.proofs.Members.{member-left, member-right, distinct-push, distinct-length}
-use Rattle.rules.proofs.Walks.{Run, run-of, run-keeps, run-grows, run-answers, run-stopped, run-no-room, run-room, Kept-on, placed, nth-within, nth-pushed, place-of, module-versions-pushed, written-keeps, written-holds, written-members, Answered}
+use Rattle.rules.proofs.Walks.{Run, run-of, run-keeps, run-grows, run-answers, run-before, run-stopped, run-no-room, run-room, Kept-on, placed, nth-within, nth-pushed, place-of, module-versions-pushed, written-keeps, written-holds, written-members, Answered}
 use Rattle.rules.proofs.Sheets.{nth-first, first-nth, Traced, traced-main, traced-first, traced-next, sheet-right, places-all, length-module-versions}
 use Rattle.rules.proofs.Reached.{required-apart}
 use Rattle.rules.proofs.Offers.{Ordered, ordered-front, offers-offered, offered-offers, offers-append, Offering, unlisted, overfull, all-offered, offering, lower-given, lower-asks, lower-faults, lower-passes, lower-faulted}
@@ -170,6 +170,23 @@ module _ (m : Meaning) (s : State) (cs : List ModuleVersion) where
           let (l, (r, n, a)) = run-stopped (lower-ask (view m s) cs) run p f t in
           let short = run-room (lower-ask (view m s) cs) run h (λ u. let z : _≡_ {A = ℕ} 0 1 = cc in omega arith) in
           by-place p l (omega (arith, nth-within last p r n, short)) r (on p r n) a
+
+  -- before the place where it stops nothing that was questioned has a fault, other than that it is missing
+  pub faultless-before : (p : ℕ) (f : Fault) → lower-walk m s cs .end ≡ stopped p f → (i : ℕ) (r : Place) → 0 < i → i < p → nth sheet i ≡ Some r
+      → (Above cs (r .row) → ⊥) → (g : Fault) → remaining (view m s) (r .row) ≡ fault g → is-missing (g .cause) ≡ true
+  faultless-before p f t i r pos lt n low g e =
+      ⊎-elim (λ k. k) (λ k. absurd (not-both (go lower-begun t n) (lower-faults (view m s) cs (r .row) g low e k))) (cases-bool (is-missing (g .cause)))
+    where
+      Given : Type 0
+      Given = (xs : List ModuleVersion) × (lower-ask (view m s) cs (r .row) ≡ found xs)
+
+      not-both : Given → lower-ask (view m s) cs (r .row) ≡ fault g → ⊥
+      not-both (xs, a) b = let z : _≡_ {A = ℕ} 0 1 = cc in omega arith
+
+      go : {last : List Place} {d : End} → Lower-begun last d → d ≡ stopped p f → nth last i ≡ Some r → Given
+      go (no-listing front back c q ls h) u k = let zp : 0 ≡ p = cc in absurd (omega arith)
+      go (no-space front back q h) u k = let z : _≡_ {A = ℕ} 0 1 = cc in absurd (omega arith)
+      go (walks ls h run) u k = let (xs, a, on) = run-before (lower-ask (view m s) cs) 1 run p f u (λ j q g l k. absurd (omega arith)) i r pos lt k in (xs, a)
 
   lower-no-room : {last : List Place} {e : End} → Lower-begun last e → e ≡ no-room → 256 < length last
   lower-no-room (no-listing front back c q ls h) t = let z : _≡_ {A = ℕ} 0 1 = cc in absurd (omega arith)

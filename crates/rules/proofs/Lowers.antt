@@ -13,7 +13,7 @@ use Rattle.rules.specs.Walks.{Place, module-versions, done, list-walk}
 use Rattle.rules.specs.Rows.{table}
 use Rattle.rules.specs.Lists.{list-of}
 use Rattle.rules.specs.Faults.{Broken}
-use Rattle.rules.specs.Lowers.{On-old-path, offers, lower-walk, barred, kept-rows, Kept, Leads, itself, through, Allowed, Fits, ceilings-at, Sound, Kept-right, Relisted, Sets-right, Lower-right}
+use Rattle.rules.specs.Lowers.{On-old-path, Offered, lower-walk, barred, kept-rows, Kept, Leads, itself, through, Allowed, Fits, ceilings-at, Sound, Kept-right, Relisted, Sets-right, Lower-right}
 use Rattle.rules.proofs.Order.{upto-antisym, not-equal-test, paths, versions}
 use Rattle.rules.proofs.Members.{module-same, member-from-has, has-from-member}
 use Rattle.rules.proofs.Rows.{one-a-path, table-ascending}
@@ -22,7 +22,7 @@ use Rattle.rules.proofs.Lists.{is-list, list-fit, shown-reached}
 use Rattle.rules.proofs.Sheets.{length-module-versions}
 use Rattle.rules.proofs.Faults.{refusal-right-at}
 use Rattle.rules.proofs.Layers.{narrowed-found, found-included, layer-lawful}
-use Rattle.rules.proofs.Offers.{upto-ceiling, ceilings-apart, offers-was, offered-offers, available-no-fault}
+use Rattle.rules.proofs.Offers.{upto-ceiling, ceilings-apart, offered-offers, available-no-fault}
 use Rattle.rules.proofs.LowerWalks.{listings, few-rows, main-on, start-on, has-list}
 use Rattle.rules.proofs.Marks.{allowed-unbarred, unbarred-allowed, kept}
 
@@ -55,6 +55,9 @@ module _ (m : Meaning) (law : Lawful m) (s : State) (p v : Bytes) (ok : lower-wa
   old-apart : (x : ModuleVersion) → On-old-path cs x → x .path ≡ s .main → ⊥
   old-apart x (c, h, q) e = ceilings-apart s p v (list-of s (list-walk m s .sheet)) (is-list s (list-walk m s .sheet)) c h (q ∙ e)
 
+  old-path : (x : ModuleVersion) → Offered (view m s .layer) cs x → On-old-path cs x
+  old-path x (c, h, q, u, l) = (c, h, q)
+
   -- the sound set: the allowed module versions of the sheet
 
   abbrev Free : ModuleVersion → Type 0
@@ -77,7 +80,7 @@ module _ (m : Meaning) (law : Lawful m) (s : State) (p v : Bytes) (ok : lower-wa
   rows-free : (x : ModuleVersion) → x ∈ rows → Free x
   rows-free x h =
       let (k, free) = rows-kept .allowed x h in
-      (start-on m s cs ok x k, old-apart x (offers-was (view m s .layer) cs x k), free)
+      (start-on m s cs ok x (offered-offers (view m s .layer) cs x k), old-apart x (old-path x k), free)
 
   rows-fit : (x : ModuleVersion) → x ∈ rows → Fits (view m s) cs x
   rows-fit x h y l = let free = leads-in (view m s) Free (free-sound .closed) l (rows-free x h) in (free-sound .available y free, free-sound .not-above y free)
@@ -89,13 +92,13 @@ module _ (m : Meaning) (law : Lawful m) (s : State) (p v : Bytes) (ok : lower-wa
       allowed : Allowed (view m s) cs x
       allowed y l = let ((ys, g), under) = fits y l in (under, λ (f, r, e). available-no-fault (view m s) y ys f g r)
 
-      offer : x ∈ offers (view m s .layer) cs
+      offer : Offered (view m s .layer) cs x
       offer =
           let (vs, l) = listings m s cs ok c k in
           let ((ys, g), under) = fits x itself in
           let on : view m s .layer .listing (x .path) ≡ found vs = ap (λ z. view m s .layer .listing z) (sym q) ∙ l in
           let listed = layer-lawful m (s .exclusions) law .whole (x .path) vs on (x .version) ys g in
-          offered-offers (view m s .layer) cs x (c, k, q, upto-ceiling cs x c under k q, (vs, on, listed))
+          (c, k, q, upto-ceiling cs x c under k q, (vs, on, listed))
 
   most-of : (set : ModuleVersion → Type 0) → Sound (view m s) cs set → (x : ModuleVersion) → set x → On-old-path cs x → Stands x rows
   most-of set sound x h old = highest x old (sound-fits (view m s) cs set sound x h)
@@ -189,7 +192,7 @@ module _ (m : Meaning) (law : Lawful m) (s : State) (p v : Bytes) (ok : lower-wa
   kept-right-at : Kept-right (view m s) cs rows
   kept-right-at = record {
     ascending = rows-kept .ascending;
-    on-old-paths = λ x h. offers-was (view m s .layer) cs x (rows-kept .allowed x h .0);
+    on-old-paths = λ x h. old-path x (rows-kept .allowed x h .0);
     fits = rows-fit;
     highest = highest;
     in-sound-set = (free, free-set, λ x h. free-is x (rows-free x h));

@@ -21,7 +21,7 @@ use Rattle.rules.proofs.Rows.{table-was, table-stands, table-ascending, tables
 use Rattle.rules.proofs.Reached.{required-apart}
 use Rattle.rules.proofs.Lists.{is-list}
 use Rattle.rules.proofs.Sheets.{length-module-versions}
-use Rattle.rules.proofs.Offers.{above-from-test, test-from-above, ceilings-apart, offers-was}
+use Rattle.rules.proofs.Offers.{above-from-test, test-from-above, ceilings-apart, offers-was, offers-offered, offered-offers}
 use Rattle.rules.proofs.LowerWalks.{few-rows, start-on, has-list}
 
 -- how many of a list pass a test
@@ -230,8 +230,8 @@ module _ (m : Meaning) (s : State) (cs : List ModuleVersion) (ok : lower-walk m 
   unfolding kept-rows
   kept-rows-kept apart = record {
     ascending = table-ascending (kept-by test start);
-    allowed = λ x h. let (k, t) = kept-was test start x (table-was (kept-by test start) x h) in (k, unbarred-allowed x (start-on m s cs ok x k) (apart x k) (not-true (barred (view m s) cs 257 x) t));
-    highest = λ x h free. table-stands (kept-by test start) x (kept-member test start x h (ap not (allowed-unbarred (view m s) cs 257 x free)));
+    allowed = λ x h. let (k, t) = kept-was test start x (table-was (kept-by test start) x h) in (offers-offered (view m s .layer) cs x k, unbarred-allowed x (start-on m s cs ok x k) (apart x k) (not-true (barred (view m s) cs 257 x) t));
+    highest = λ x h free. table-stands (kept-by test start) x (kept-member test start x (offered-offers (view m s .layer) cs x h) (ap not (allowed-unbarred (view m s) cs 257 x free)));
   }
     where
       start : List ModuleVersion

@@ -17,22 +17,22 @@ use Rattle.rules.proofs.Slices.{filled-length}
 
 module _ {A : Type 0} (none : A) (n : ℕ) (a : Answer (List A)) where
   -- what is told of an answer as it is given
-  abbrev telling : Answer (List A) → Told A
+  abbrev pub telling : Answer (List A) → Told A
   telling b = record { answer = narrowed length b; slice = filled none n (found-in b) }
 
-  told-short : n < 64 → told none n a ≡ telling (fault too-short)
+  pub told-short : n < 64 → told none n a ≡ telling (fault too-short)
   told-short h = ap (λ b. telling (cond b a (fault too-short))) (lt-leb 64 n h)
 
-  told-long : 64 ≤ n → told none n a ≡ telling a
+  pub told-long : 64 ≤ n → told none n a ≡ telling a
   told-long h = ap (λ b. telling (cond b a (fault too-short))) (le-leb 64 n h)
 
   all-blank : filled none n [] ≡ replicate n none
   all-blank = ap (λ k. replicate k none) (sub-zero n)
 
-  told-found : 64 ≤ n → (xs : List A) → a ≡ found xs → told none n a ≡ telling (found xs)
+  pub told-found : 64 ≤ n → (xs : List A) → a ≡ found xs → told none n a ≡ telling (found xs)
   told-found h xs e = told-long h ∙ ap telling e
 
-  told-fault : 64 ≤ n → (f : Fault) → a ≡ fault f → told none n a ≡ telling (fault f)
+  pub told-fault : 64 ≤ n → (f : Fault) → a ≡ fault f → told none n a ≡ telling (fault f)
   told-fault h f e = told-long h ∙ ap telling e
 
   told-right : ((xs : List A) → a ≡ found xs → length xs ≤ 64) → Told-right none n a (told none n a)

@@ -11,13 +11,14 @@ use Rattle.std.specs.declared.option.Option.the-variants.{Some}
 use Rattle.std.proofs.shelf.Tests.{not-true}
 use Rattle.rules.specs.Orders.{Bytes}
 use Rattle.rules.specs.Names.{ModuleVersion, same-path, has, _∈_, Distinct}
+use Rattle.rules.specs.Causes.{Fault}
 use Rattle.rules.specs.Sources.{Answer, found, fault, Meaning, narrowed, included}
 use Rattle.rules.specs.Projects.{State, main-row, off-main, main-requirements, View, view, remaining, Requires, Chain, start, first, onward, Reached}
-use Rattle.rules.specs.Walks.{Place, module-versions, done, list-walk, first-sheet, trail, trail-at}
+use Rattle.rules.specs.Walks.{Place, module-versions, done, stopped, list-walk, first-sheet, trail, trail-at}
 use Rattle.rules.specs.Sheets.{Comes-from, List-sheet, Sheet-stands}
 use Rattle.rules.proofs.Order.{apart-from-test, not-equal-test, paths}
 use Rattle.rules.proofs.Members.{kept-member, kept-was}
-use Rattle.rules.proofs.Walks.{Begun, begun-of, begun-keeps, begun-grows, begun-holds, begun-answers, begun-distinct, placed, place-of, Answered}
+use Rattle.rules.proofs.Walks.{Begun, begun-of, begun-keeps, begun-grows, begun-holds, begun-answers, begun-before, begun-distinct, placed, place-of, Answered}
 use Rattle.rules.proofs.Sheets.{Traced, traced-main, traced-first, traced-next, first-traced, sheet-right}
 
 pub off-main-apart : (main : Bytes) (x : ModuleVersion) → not (same-path x main) ≡ true → x .path ≡ main → ⊥
@@ -160,6 +161,11 @@ module _ (m : Meaning) (s : State) where
       go : (i : ℕ) × (r : Place) × (nth (list-walk m s .sheet) i ≡ Some r) × (x ≡ r .row) → Reached m s x
       go (zero, r, n, e) = let same : placed (main-row s) 0 ≡ r = cc (traced .0) in subst (Reached m s) (ap (λ v. v .row) same ∙ sym e) reached-main
       go (suc i, r, n, e) = let (z, xs, c) = place-reached i r n in subst (Reached m s) (sym e) (z ∷ xs, c)
+
+  -- before the place where it stops each was answered
+  pub answered-before : (p : ℕ) (f : Fault) → list-walk m s .end ≡ stopped p f → (i : ℕ) (r : Place) → 0 < i → i < p → nth (list-walk m s .sheet) i ≡ Some r
+      → (xs : List ModuleVersion) × (remaining (view m s) (r .row) ≡ found xs)
+  answered-before p f t i r g l n = let (xs, a, on) = begun-before (remaining (view m s)) (main-requirements s) (first-sheet s) list-begun p f t i r g l n in (xs, a)
 
   module _ (ok : list-walk m s .end ≡ done) where
     sheet-answered : (x : ModuleVersion) → x ∈ module-versions (list-walk m s .sheet) → (x .path ≡ s .main → ⊥) → Answered (remaining (view m s)) x (list-walk m s .sheet)

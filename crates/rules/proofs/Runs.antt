@@ -3,11 +3,12 @@ use mathlib.Core.Path.{_≡_, refl, sym, ap, _∙_, subst}
 use mathlib.Core.Bool.{Bool, true, false, cond, _&&_}
 use mathlib.Core.List.{List, []}
 use mathlib.Core.Logic.{_↔_, _⊎_, inl, inr, ⊎-elim}
-use Prim.Native.Nat.{ℕ, _-_, _≤_}
+use Prim.Native.Nat.{ℕ, _-_, _≤_, _<_}
 use native.Mathlib.Omega.{arith}
 use lib.Dec.{leb}
 use native.Mathlib.Nat.{sub-zero}
 use lib.ListN.{length, take, replicate, length-take}
+use Rattle.std.specs.Finite.{nth}
 use Rattle.std.specs.Orderings.{isLe, isLt}
 use Rattle.std.specs.declared.option.Option.{Option}
 use Rattle.std.specs.declared.option.Option.the-variants.{Some, None}
@@ -17,26 +18,25 @@ use Rattle.rules.specs.Orders.{Bytes}
 use Rattle.rules.specs.Versions.{version-order}
 use Rattle.rules.specs.Names.{ModuleVersion, same-path, has, _∈_}
 use Rattle.rules.specs.Rows.{row-of, with-row, with-exclusion}
-use Rattle.rules.specs.Causes.{Cause, too-many-module-versions, Fault, Refusal, nothing-to-change, table-full, slice-too-short}
-use Rattle.rules.specs.Sources.{Meaning, Lawful}
-use Rattle.rules.specs.Projects.{State, view, Reached, Few, with-rows, with-exclusions}
+use Rattle.rules.specs.Causes.{Cause, too-many-module-versions, is-missing, Fault, Refusal, nothing-to-change, table-full, slice-too-short}
+use Rattle.rules.specs.Sources.{found, fault, Meaning, Lawful}
+use Rattle.rules.specs.Projects.{State, view, remaining, Reached, Few, with-rows, with-exclusions}
 use Rattle.rules.specs.Walks.{Place, module-versions, End, done, stopped, no-room, list-walk}
-use Rattle.rules.specs.Sheets.{List-sheet}
 use Rattle.rules.specs.Lists.{list-of}
 use Rattle.rules.specs.Faults.{Stopped, Broken, Shown-on}
-use Rattle.rules.specs.Lowers.{after-main, can-lower, Stands-above, ceilings, offers, Listed, Offered, Faultless, Few-met, Many-met, lower-walk, kept-rows, old-list, ceilings-at, Lower-stopped}
+use Rattle.rules.specs.Lowers.{after-main, can-lower, Stands-above, ceilings, Above, offers, Listed, Offered, Faultless, Few-met, Many-met, lower-walk, kept-rows, old-list, ceilings-at, Lower-stopped}
 use Rattle.rules.specs.Slices.{blank, blank-place, Lent, long-enough, Too-short, filled, holding}
 use Rattle.rules.specs.Manifests.{manifest, unread}
 use Rattle.rules.specs.Calls.{Call, load, raise, drop, exclude, lower, list, counted, refused, Outcome, refusal-for, refusal-at, refuses, unless, raised, dropped, excluded, replied, if-done, if-long-enough, lists, lowers-nothing, lowers-by, lowers, does}
-use Rattle.rules.specs.Runs.{after, fresh, Gives, Counted, Refused, Turned-away, fault-of, Least, Deserved, Overfull, Lowerable, Lowering, Lowered, Runs-right}
+use Rattle.rules.specs.Runs.{after, fresh, Gives, Counted, Refused, Turned-away, fault-of, Least, Deserved, Overfull, Listing, Lowerable, Lowering, Lowered, Runs-right}
 use Rattle.rules.proofs.Order.{equal-from-test, test-from-equal, before-from-less, paths, versions}
-use Rattle.rules.proofs.Sheets.{short-256, first-was, first-distinct}
+use Rattle.rules.proofs.Sheets.{nth-first, short-256, first-was, first-distinct}
 use Rattle.rules.proofs.Lists.{is-list, list-right-at}
 use Rattle.rules.proofs.Faults.{refusal-right-at, shown-on, many}
-use Rattle.rules.proofs.Reached.{main-or-apart, list-sheet, sheet-distinct, sheet-reached, reached-sheet}
+use Rattle.rules.proofs.Reached.{main-or-apart, list-sheet, answered-before, sheet-distinct, sheet-reached, reached-sheet}
 use Rattle.rules.proofs.Layers.{layer-lawful}
 use Rattle.rules.proofs.Offers.{ceilings-apart, ceilings-ascend, Ordered, offers-ordered}
-use Rattle.rules.proofs.LowerWalks.{lower-sheet, sheet-met, lower-stopped, over-256, many-met, lower-done, listings, few-rows, main-on, offer-on, met-on, faultless, few-met}
+use Rattle.rules.proofs.LowerWalks.{lower-sheet, sheet-met, lower-stopped, faultless-before, over-256, many-met, lower-done, listings, few-rows, main-on, offer-on, met-on, faultless, few-met}
 use Rattle.rules.proofs.Marks.{some-there, there-some}
 use Rattle.rules.proofs.Lowers.{lower-right}
 use Rattle.rules.proofs.Slices.{filled-length, long-sheet, long-list, sheet-room, list-room, on-slice, no-room-256}
@@ -169,22 +169,37 @@ module _ (m : Meaning) (s : State) where
     abbrev rows : ℕ
     rows = length (old-list m s)
 
-    sheet-right : long-enough n ≡ true → (sheet : List Place) × (does m s (list n) .slices .sheet ≡ filled blank-place (n .sheet) sheet) × List-sheet m s sheet
-        × ((k c : ℕ) → does m s (list n) .reply ≡ counted k c → (k ≡ length sheet) × ((x : ModuleVersion) → x ∈ module-versions sheet ↔ Reached m s x))
-    sheet-right w = (take 256 (list-walk m s .sheet), ap (λ o. o .slices .sheet) (long-list-is n w), list-sheet m s, given)
-      where
-        given : (k c : ℕ) → does m s (list n) .reply ≡ counted k c → (k ≡ length (take 256 (list-walk m s .sheet))) × ((x : ModuleVersion) → x ∈ module-versions (take 256 (list-walk m s .sheet)) ↔ Reached m s x)
-        given k c q =
-            let (w, ok) = list-given n (k, c, q) in
-            let z : counted k c ≡ counted places rows = sym q ∙ ap (λ o. o .reply) (long-list-is n w) ∙ ap (λ e. replied e places rows) ok in
-            rw (take-all 256 (list-walk m s .sheet) (sheet-room m s (λ e. let y : _≡_ {A = ℕ} 0 1 = cc in omega arith))) (cc, λ x. (sheet-reached m s x, reached-sheet m s ok x))
-
     -- where the walk was stopped, the refusal tells by what
     told : (p : ℕ) (f : Fault) (r : Refusal) → list-walk m s .end ≡ stopped p f → lists m s n .reply ≡ refused r → list-walk m s .end ≡ stopped (r .sheet-place) (fault-of r)
     told p f r e q =
         let z : refused r ≡ refused (refusal-at p f) = sym q ∙ ap (λ w. replied w places rows) e in
         let same : r ≡ refusal-at p f = cc in
         e ∙ ap (λ w. stopped (w .sheet-place) (fault-of w)) (sym same)
+
+    listing : long-enough n ≡ true → Listing m s n (does m s (list n))
+    listing w = subst (Listing m s n) (sym (long-list-is n w)) (record {
+      sheet = take 256 (list-walk m s .sheet);
+      holds = refl;
+      right = list-sheet m s;
+      places = λ k c q. let ok = walked k c q in let z : counted k c ≡ counted places rows = sym q ∙ ap (λ e. replied e places rows) ok in rw (whole (λ e. let y : _≡_ {A = ℕ} 0 1 = cc in omega arith)) (cc);
+      all-reached = λ (k, c, q) x. let ok = walked k c q in rw (whole (λ e. let y : _≡_ {A = ℕ} 0 1 = cc in omega arith)) (sheet-reached m s x, reached-sheet m s ok x);
+      first-fault = λ r q i p pos lt e. before (list-walk m s .end) refl r q i p pos lt (nth-first 256 (list-walk m s .sheet) i p e .0);
+    })
+      where
+        walked : (k c : ℕ) → lists m s n .reply ≡ counted k c → list-walk m s .end ≡ done
+        walked k c q = replied-done (list-walk m s .end) places rows k c q
+
+        whole : (list-walk m s .end ≡ no-room → ⊥) → take 256 (list-walk m s .sheet) ≡ list-walk m s .sheet
+        whole h = take-all 256 (list-walk m s .sheet) (sheet-room m s h)
+
+        before : (e : End) → list-walk m s .end ≡ e → (r : Refusal) → replied e places rows ≡ refused r → (i : ℕ) (q : Place) → 0 < i → i < r .sheet-place → nth (list-walk m s .sheet) i ≡ Some q
+            → (xs : List ModuleVersion) × (remaining (view m s) (q .row) ≡ found xs)
+        before done t r h i q pos lt e = let z : _≡_ {A = ℕ} 0 1 = cc in absurd (omega arith)
+        before (stopped k f) t r h i q pos lt e = let same : refusal-at k f ≡ r = cc in answered-before m s k f t i q pos (subst (λ (w : Refusal). i < w .sheet-place) (sym same) lt) e
+        before no-room t r h i q pos lt e =
+            let same : refusal-for too-many-module-versions ≡ r = cc in
+            let none : i < 0 = subst (λ (w : Refusal). i < w .sheet-place) (sym same) lt in
+            absurd (omega arith)
 
     shows : (r : Refusal) → list-walk m s .end ≡ stopped (r .sheet-place) (fault-of r) → Shown-on m s (lists m s n .slices .sheet) (r .sheet-place) (fault-of r)
     shows r e =
@@ -225,6 +240,23 @@ module _ (m : Meaning) (s : State) where
 
         from : Broken m s → Refused (lists m s n)
         from b = refused-at (refusal-right-at m s .0 few .1 .1 b)
+
+  blank-right : (n : Lent) → Refused (does m s (list n)) → does m s (list n) .slices .list ≡ replicate (n .list) blank
+  unfolding does
+  blank-right n = by-width (long-enough n)
+    where
+      all-blank : filled blank (n .list) [] ≡ replicate (n .list) blank
+      all-blank = ap (λ k. replicate k blank) (sub-zero (n .list))
+
+      by-end : (e : End) → (r : Refusal) → replied e (length (list-walk m s .sheet)) (length (old-list m s)) ≡ refused r → filled blank (n .list) (if-done e (old-list m s) []) ≡ replicate (n .list) blank
+      by-end done r q = let z : _≡_ {A = ℕ} 0 1 = cc in absurd (omega arith)
+      by-end (stopped k f) r q = all-blank
+      by-end no-room r q = all-blank
+
+      by-width : (b : Bool) → Refused (cond b (lists m s n) (record { reply = refused (refusal-for slice-too-short); state = s; slices = holding n [] [] }))
+          → cond b (lists m s n) (record { reply = refused (refusal-for slice-too-short); state = s; slices = holding n [] [] }) .slices .list ≡ replicate (n .list) blank
+      by-width true (r, q) = by-end (list-walk m s .end) r q
+      by-width false h = all-blank
 
   -- a lower
 
@@ -376,6 +408,7 @@ module _ (m : Meaning) (law : Lawful m) (s : State) (p v : Bytes) (n : Lent) whe
     all-offered = λ (k, rows, q) x h. let ok = ended k rows q in rw (all ok) (offer-on m s ceils ok x h);
     all-met = λ (k, rows, q) x. let ok = ended k rows q in rw (all ok) (sheet-met m s ceils x, λ h. ⊎-elim (λ e. rw e (main-on m s ceils ok)) (met-on m s ceils ok off) h);
     refusal = λ r q. shows (lower-walk m s ceils .end) refl r q;
+    first-fault = λ r q i h pos lt e. before (lower-walk m s ceils .end) refl r q i h pos lt (nth-first 256 lower-places i h e .0);
   }
     where
       ended : (k rows : ℕ) → lowers-by m s n ceils .reply ≡ counted k rows → lower-walk m s ceils .end ≡ done
@@ -383,6 +416,16 @@ module _ (m : Meaning) (law : Lawful m) (s : State) (p v : Bytes) (n : Lent) whe
 
       all : lower-walk m s ceils .end ≡ done → take 256 lower-places ≡ lower-places
       all ok = take-all 256 lower-places (few-rows m s ceils ok)
+
+      before : (e : End) → lower-walk m s ceils .end ≡ e → (r : Refusal) → replied e (length lower-places) (length (old-list m s)) ≡ refused r
+          → (i : ℕ) (q : Place) → 0 < i → i < r .sheet-place → nth lower-places i ≡ Some q
+          → (Above ceils (q .row) → ⊥) → (f : Fault) → remaining (view m s) (q .row) ≡ fault f → is-missing (f .cause) ≡ true
+      before done t r h i q pos lt e = let z : _≡_ {A = ℕ} 0 1 = cc in absurd (omega arith)
+      before (stopped k f) t r h i q pos lt e = let same : refusal-at k f ≡ r = cc in faultless-before m s ceils k f t i q pos (subst (λ (w : Refusal). i < w .sheet-place) (sym same) lt) e
+      before no-room t r h i q pos lt e =
+          let same : refusal-for too-many-module-versions ≡ r = cc in
+          let none : i < 0 = subst (λ (w : Refusal). i < w .sheet-place) (sym same) lt in
+          absurd (omega arith)
 
       shows : (e : End) → lower-walk m s ceils .end ≡ e → (r : Refusal) → replied e (length lower-places) (length (old-list m s)) ≡ refused r
           → Lower-stopped m s ceils (take 256 lower-places) (r .sheet-place) (fault-of r)
@@ -493,10 +536,11 @@ pub runs-right : Runs-right
 runs-right m law calls = let s = after m fresh calls in record {
   refused-unchanged = refuses-right m s;
   list-least = least-right m s;
-  list-sheet = sheet-right m s;
+  list-shown = listing m s;
   main-alone = λ x r p. ⊎-elim (λ e. e) (λ off. absurd (off p)) (main-or-apart m s x r);
   refusal-shown = explains-right m s;
   refusal-deserved = deserved-right m s;
+  refused-blank = blank-right m s;
   lower-lists-first = lists-first-right m s;
   lower-idle = idle-right m s;
   lower-shown = λ p v n. shown-right m law s p v n;

@@ -32,6 +32,7 @@ use Rattle.rules.proofs.Members.{distinct-length}
 use Rattle.rules.proofs.Tables.{ascending-distinct, lookup-there, entered-old, entered-most, entered-all-most, entered-keep-ascending, joined-ascending, removed-ascending, removed-most}
 use Rattle.rules.proofs.Rows.{with-row-ascending, table-ascending}
 use Rattle.rules.proofs.Sheets.{length-module-versions}
+use Rattle.rules.proofs.Offers.{offered-offers}
 use Rattle.rules.proofs.LowerWalks.{few-rows, start-on}
 use Rattle.rules.proofs.Marks.{kept}
 
@@ -94,7 +95,7 @@ module _ (m : Meaning) (s : State) (t : Tidy s) where
       go : (e : End) → lower-walk m s cs .end ≡ e → Tidy (if-done e (with-rows s (kept-rows (view m s) cs)) s)
       go done ok =
           let k = kept m s p v ok in
-          let few = distinct-length (kept-rows (view m s) cs) (module-versions (lower-walk m s cs .sheet)) (ascending-distinct path-of path-order paths (kept-rows (view m s) cs) (k .ascending)) (λ x h. start-on m s cs ok x (k .allowed x h .0)) in
+          let few = distinct-length (kept-rows (view m s) cs) (module-versions (lower-walk m s cs .sheet)) (ascending-distinct path-of path-order paths (kept-rows (view m s) cs) (k .ascending)) (λ x h. start-on m s cs ok x (offered-offers (view m s .layer) cs x (k .allowed x h .0))) in
           with-rows-tidy s (kept-rows (view m s) cs) t (k .ascending) (omega (arith, few, length-module-versions (lower-walk m s cs .sheet), few-rows m s cs ok))
       go (stopped k f) ok = t
       go no-room ok = t

@@ -1,7 +1,7 @@
 -- The walk, whatever is asked: how it runs, what it keeps, and what its end says. Assumes nothing.
 -- `walk` counts down and matches three times in a turn. `Run` is the same as a relation, one constructor for each way that a turn ends:
 -- `run-of` goes through the matches once, and every other proof is a recursion over `Run`.
-use mathlib.Core.Path.{_≡_, refl, sym, ap, _∙_}
+use mathlib.Core.Path.{_≡_, refl, sym, ap, _∙_, subst}
 use mathlib.Core.Bool.{Bool, true, false, cond}
 use mathlib.Core.List.{List, [], _∷_, _++_}
 use mathlib.Core.Logic.{_⊎_, inl, inr, ⊎-elim}
@@ -184,6 +184,13 @@ module _ (ask : ModuleVersion → Answer (List ModuleVersion)) where
   run-answers low (fills n a h) t old i r g p = let z : _≡_ {A = ℕ} 0 1 = cc in absurd (omega arith)
   run-answers low (goes {k} {sheet} {r = r} {xs = xs} n a h run) t old i q g p = run-answers low run t (turn-answers low k sheet r xs n a old) i q g p
 
+  -- one that stopped has been answered at each row before its place
+  pub run-before : (low : ℕ) {k : ℕ} {sheet last : List Place} {e : End} → Run k sheet last e → (p : ℕ) (f : Fault) → e ≡ stopped p f → Answered-from low k sheet → Answered-from low p last
+  run-before low (ends h) p f t old = let z : _≡_ {A = ℕ} 0 1 = cc in absurd (omega arith)
+  run-before low (stops {k} {sheet} n a) p f t old = let kp : k ≡ p = cc in subst (λ i. Answered-from low i sheet) kp old
+  run-before low (fills n a h) p f t old = let z : _≡_ {A = ℕ} 0 1 = cc in absurd (omega arith)
+  run-before low (goes {k} {sheet} {r = r} {xs = xs} n a h run) p f t old = run-before low run p f t (turn-answers low k sheet r xs n a old)
+
   -- one that stopped has at its place, where it began or later, what brought the fault
   pub run-stopped : {k : ℕ} {sheet last : List Place} {e : End} → Run k sheet last e → (p : ℕ) (f : Fault) → e ≡ stopped p f
       → (k ≤ p) × ((r : Place) × (nth last p ≡ Some r) × (ask (r .row) ≡ fault f))
@@ -250,6 +257,10 @@ module _ (ask : ModuleVersion → Answer (List ModuleVersion)) where
     pub begun-stopped : {last : List Place} {e : End} → Begun last e → (p : ℕ) (f : Fault) → e ≡ stopped p f → (1 ≤ p) × ((r : Place) × (nth last p ≡ Some r) × (ask (r .row) ≡ fault f))
     begun-stopped (overflows h) p f t = let z : _≡_ {A = ℕ} 0 1 = cc in absurd (omega arith)
     begun-stopped (begins h run) p f t = run-stopped run p f t
+
+    pub begun-before : {last : List Place} {e : End} → Begun last e → (p : ℕ) (f : Fault) → e ≡ stopped p f → Answered-from 1 p last
+    begun-before (overflows h) p f t = let z : _≡_ {A = ℕ} 0 1 = cc in absurd (omega arith)
+    begun-before (begins h run) p f t = run-before 1 run p f t (λ j q g k n. absurd (omega arith))
 
     pub begun-no-room : {last : List Place} {e : End} → Begun last e → e ≡ no-room → 256 < length last
     begun-no-room (overflows h) t = h

@@ -5,7 +5,10 @@
 -- highest offered row that is allowed; the kept rows become the requirement rows.
 -- What that is worth: a set of module versions is sound if each is available, that is, the exclude layer finds its list, and above no ceiling,
 -- and if it holds all that remains required by its members. The kept rows lie in a sound set, no sound set has an old path above its kept row,
--- and a list taken right after shows exactly the kept rows on the old paths. Assumes nothing.
+-- and a list taken right after shows exactly the kept rows on the old paths.
+-- Lower has a walk of its own, which begins with the offers, path by path and the highest first, and goes no further from a row above its
+-- ceiling. It stops if a listing is a fault, if something that it meets has a fault other than a missing manifest, or if with the main row
+-- it meets more than 256. Assumes nothing.
 use mathlib.Core.Path.{_≡_}
 use mathlib.Core.Bool.{Bool, true, false, not, cond, _&&_, _||_}
 use mathlib.Core.List.{List, [], _∷_, _++_, map}
@@ -41,7 +44,7 @@ some test (x ∷ xs) = test x || some test xs
 abbrev pub can-lower : Bytes → Bytes → List ModuleVersion → Bool
 can-lower p v l = some (λ x. same-path x p && isLt (version-order v (x .version))) (after-main l)
 
--- the same in the subject's words
+-- the same in words
 abbrev pub Stands-above : Bytes → Bytes → List ModuleVersion → Type 0
 Stands-above p v l = (x : ModuleVersion) × (x ∈ after-main l) × (x .path ≡ p) × Below v (x .version)
 
@@ -164,8 +167,8 @@ module _ (w : View) where
   -- The kept rows: a table of allowed offers, in which every allowed offer stands.
   pub record Kept (cs rows : List ModuleVersion) : Type 0 where
     pub ascending : Ascending-rows rows
-    pub allowed : (x : ModuleVersion) → x ∈ rows → (x ∈ offers (w .layer) cs) × Allowed cs x
-    pub highest : (x : ModuleVersion) → x ∈ offers (w .layer) cs → Allowed cs x → Stands x rows
+    pub allowed : (x : ModuleVersion) → x ∈ rows → Offered (w .layer) cs x × Allowed cs x
+    pub highest : (x : ModuleVersion) → Offered (w .layer) cs x → Allowed cs x → Stands x rows
 
   -- all that x leads to, itself included, is available and above no ceiling
   abbrev pub Fits : List ModuleVersion → ModuleVersion → Type 0

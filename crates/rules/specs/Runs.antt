@@ -1,24 +1,27 @@
 -- Runs of calls from the fresh state, and the law over all of them: whatever calls were made, over every lawful meaning, a list that is given is
--- the least that is fit, a refusal is deserved and shown, and a lower keeps the highest rows that can stand together. Assumes nothing.
+-- the least that is fit, a refusal is deserved and shown, and a lower keeps the highest rows that can stand together; when a list and a lower are
+-- accepted, what each refusal shows, and what the two slices hold after each. Assumes nothing.
 use mathlib.Core.Path.{_≡_}
 use mathlib.Core.Bool.{true}
 use mathlib.Core.List.{List, [], _∷_}
 use mathlib.Core.Logic.{_↔_, _⊎_}
-use Prim.Native.Nat.{ℕ, _≤_}
+use Prim.Native.Nat.{ℕ, _≤_, _<_}
 use lib.Chars.{codes}
 use lib.ListN.{length, replicate}
+use Rattle.std.specs.Finite.{nth}
 use Rattle.std.specs.shelf.Lists.{All}
+use Rattle.std.specs.declared.option.Option.the-variants.{Some}
 use Rattle.rules.specs.Orders.{Bytes}
 use Rattle.rules.specs.Names.{ModuleVersion, _∈_, Distinct}
 use Rattle.rules.specs.Rows.{Ascending-rows, Ascending-exclusions}
-use Rattle.rules.specs.Causes.{slice-too-short, too-many-module-versions, nothing-to-change, Refusal, Fault}
-use Rattle.rules.specs.Sources.{Meaning, Lawful}
-use Rattle.rules.specs.Projects.{State, Only-rows-change, main-row, view, Reached, Few, Many}
+use Rattle.rules.specs.Causes.{slice-too-short, too-many-module-versions, nothing-to-change, is-missing, Refusal, Fault}
+use Rattle.rules.specs.Sources.{found, fault, Meaning, Lawful}
+use Rattle.rules.specs.Projects.{State, Only-rows-change, main-row, view, remaining, Reached, Few, Many}
 use Rattle.rules.specs.Walks.{Place, module-versions}
 use Rattle.rules.specs.Sheets.{List-sheet}
 use Rattle.rules.specs.Lists.{Is-list, Least-fit}
 use Rattle.rules.specs.Faults.{Broken, Shown-on}
-use Rattle.rules.specs.Lowers.{Stands-above, ceilings, On-old-path, Listed, Offered, Met, Faultless, Few-met, Many-met, Kept-right, Lower-sheet, Lower-stopped}
+use Rattle.rules.specs.Lowers.{Stands-above, ceilings, On-old-path, Above, Listed, Offered, Met, Faultless, Few-met, Many-met, Kept-right, Lower-sheet, Lower-stopped}
 use Rattle.rules.specs.Slices.{blank, blank-place, Lent, long-enough, Too-short, filled}
 use Rattle.rules.specs.Manifests.{manifest, unread}
 use Rattle.rules.specs.Calls.{Call, load, raise, drop, exclude, lower, list, counted, refused, Outcome, refusal-for, does}
@@ -70,6 +73,19 @@ module _ (m : Meaning) (s : State) where
   Overfull n o = Many m s × ((sheet : List Place) × (length sheet ≡ 256) × (o .slices .sheet ≡ filled blank-place (n .sheet) sheet)
       × Distinct (module-versions sheet) × ((x : ModuleVersion) → x ∈ module-versions sheet → Reached m s x))
 
+  -- what a list in slices long enough leaves on the sheet slice, given or refused
+  pub record Listing (n : Lent) (o : Outcome) : Type 0 where
+    -- the sheet, as far as it was walked, and then blanks
+    pub sheet : List Place
+    pub holds : o .slices .sheet ≡ filled blank-place (n .sheet) sheet
+    pub right : List-sheet m s sheet
+    -- given, it has just what is reached
+    pub places : (k rows : ℕ) → o .reply ≡ counted k rows → k ≡ length sheet
+    pub all-reached : Counted o → (x : ModuleVersion) → x ∈ module-versions sheet ↔ Reached m s x
+    -- refused, before the place that it names each has a requirement list
+    pub first-fault : (r : Refusal) → o .reply ≡ refused r → (i : ℕ) (q : Place) → 0 < i → i < r .sheet-place → nth sheet i ≡ Some q
+        → (xs : List ModuleVersion) × (remaining (view m s) (q .row) ≡ found xs)
+
   -- When a lower of the path p to the version v is accepted: the list is given, the path stands on it above the version, every old path's listing
   -- is found, nothing that is met under the ceilings has a fault other than a missing manifest, and with the main row at most 256 are met.
   pub record Lowerable (p v : Bytes) (n : Lent) : Type 0 where
@@ -95,6 +111,9 @@ module _ (m : Meaning) (s : State) where
     -- refused, it shows why: by a listing, by what stands at a place, or by there being more than 256
     pub refusal : (r : Refusal) → o .reply ≡ refused r
         → Lower-stopped m s (ceilings p v l) sheet (r .sheet-place) (fault-of r) ⊎ ((r ≡ refusal-for too-many-module-versions) × (length sheet ≡ 256) × Many-met m s (ceilings p v l))
+    -- and before the place that it names nothing that is questioned has a fault, other than that it is missing
+    pub first-fault : (r : Refusal) → o .reply ≡ refused r → (i : ℕ) (q : Place) → 0 < i → i < r .sheet-place → nth sheet i ≡ Some q
+        → (Above (ceilings p v l) (q .row) → ⊥) → (f : Fault) → remaining (view m s) (q .row) ≡ fault f → is-missing (f .cause) ≡ true
 
   -- what an accepted lower of the path p to the version v is worth
   pub record Lowered (p v : Bytes) (n : Lent) (o : Outcome) : Type 0 where
@@ -116,10 +135,8 @@ module _ (m : Meaning) (s : State) where
     pub refused-unchanged : (c : Call) → Refused (does m s c) → does m s c .state ≡ s
     -- a list that is given is the least
     pub list-least : (n : Lent) → Counted (does m s (list n)) → (l : List ModuleVersion) × Gives (does m s (list n)) n l × Least l
-    -- the sheet slice, if long enough, holds places that each came from an earlier one, as far as was walked, and then blanks; and if the list
-    -- is given, just what is reached
-    pub list-sheet : (n : Lent) → long-enough n ≡ true → (sheet : List Place) × (does m s (list n) .slices .sheet ≡ filled blank-place (n .sheet) sheet) × List-sheet m s sheet
-        × ((places rows : ℕ) → does m s (list n) .reply ≡ counted places rows → (places ≡ length sheet) × ((x : ModuleVersion) → x ∈ module-versions sheet ↔ Reached m s x))
+    -- and what it leaves on the sheet slice, given or refused
+    pub list-shown : (n : Lent) → long-enough n ≡ true → Listing n (does m s (list n))
     -- of all that is reached only the main row is on the main path
     pub main-alone : (x : ModuleVersion) → Reached m s x → x .path ≡ s .main → x ≡ main-row s
     -- a refusal in slices long enough shows why: by a module version for which no list is to be had, or by there being more than 256
@@ -127,6 +144,8 @@ module _ (m : Meaning) (s : State) where
         → Shown-on m s (does m s (list n) .slices .sheet) (r .sheet-place) (fault-of r) ⊎ ((r ≡ refusal-for too-many-module-versions) × Overfull n (does m s (list n)))
     -- while at most 256 are reached, in slices long enough, a refusal is deserved
     pub refusal-deserved : (n : Lent) → long-enough n ≡ true → Few m s → Deserved (does m s (list n))
+    -- where a list is refused, its slice is blank
+    pub refused-blank : (n : Lent) → Refused (does m s (list n)) → does m s (list n) .slices .list ≡ replicate (n .list) blank
     -- where a list is refused, a lower does just what the list does
     pub lower-lists-first : (p v : Bytes) (n : Lent) → Refused (does m s (list n)) → does m s (lower p v n) ≡ does m s (list n)
     -- where a list is given that does not have the path above the version, there is nothing to lower, and the slices are as the list leaves them

@@ -118,7 +118,7 @@ pub fn tidy_stands() -> u8
     0
 }
 
-// What load, raise, drop and exclude do to the tables, and when they are refused.
+// What load, raise, drop and exclude do to the tables, what they leave, and when they are accepted and refused.
 pub fn changes_stand() -> u8
     ensures { λ _. ⌜ Changes-right ⌝ }
 {
