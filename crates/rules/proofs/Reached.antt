@@ -15,7 +15,7 @@ use Rattle.rules.specs.Causes.{Fault}
 use Rattle.rules.specs.Sources.{Answer, found, fault, Meaning, narrowed, included}
 use Rattle.rules.specs.Projects.{State, main-row, off-main, main-requirements, View, view, remaining, Requires, Chain, start, first, onward, Reached}
 use Rattle.rules.specs.Walks.{Place, module-versions, done, stopped, list-walk, first-sheet, trail, trail-at}
-use Rattle.rules.specs.Sheets.{Comes-from, List-sheet, Sheet-stands}
+use Rattle.rules.specs.Sheets.{Comes-from, List-sheet, Sheets-right}
 use Rattle.rules.proofs.Order.{apart-from-test, not-equal-test, paths}
 use Rattle.rules.proofs.Members.{kept-member, kept-was}
 use Rattle.rules.proofs.Walks.{Begun, begun-of, begun-keeps, begun-grows, begun-holds, begun-answers, begun-before, begun-distinct, placed, place-of, Answered}
@@ -188,5 +188,5 @@ module _ (m : Meaning) (s : State) where
     pub reached-found : (x : ModuleVersion) → Reached m s x → (x .path ≡ s .main → ⊥) → (xs : List ModuleVersion) × (remaining (view m s) x ≡ found xs)
     reached-found x r off = let (xs, a, on) = sheet-answered x (reached-sheet x r) off in (xs, a)
 
-pub sheet-stands : Sheet-stands
-sheet-stands = list-sheet
+pub sheets-right : Sheets-right
+sheets-right = list-sheet

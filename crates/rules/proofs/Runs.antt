@@ -16,12 +16,12 @@ use Rattle.std.proofs.shelf.Lists.{take-all, take-append-le}
 use Rattle.std.proofs.shelf.Tests.{and-parts, and-from, cases-bool}
 use Rattle.rules.specs.Orders.{Bytes}
 use Rattle.rules.specs.Versions.{version-order}
-use Rattle.rules.specs.Names.{ModuleVersion, same-path, has, _∈_}
+use Rattle.rules.specs.Names.{ModuleVersion, same-path, has}
 use Rattle.rules.specs.Rows.{row-of, with-row, with-exclusion}
 use Rattle.rules.specs.Causes.{Cause, too-many-module-versions, is-missing, Fault, Refusal, nothing-to-change, table-full, slice-too-short}
 use Rattle.rules.specs.Sources.{found, fault, Meaning, Lawful}
-use Rattle.rules.specs.Projects.{State, view, remaining, Reached, Few, with-rows, with-exclusions}
-use Rattle.rules.specs.Walks.{Place, module-versions, End, done, stopped, no-room, list-walk}
+use Rattle.rules.specs.Projects.{State, view, remaining, Few, with-rows, with-exclusions}
+use Rattle.rules.specs.Walks.{Place, End, done, stopped, no-room, list-walk}
 use Rattle.rules.specs.Lists.{list-of}
 use Rattle.rules.specs.Faults.{Stopped, Broken, Shown-on}
 use Rattle.rules.specs.Lowers.{after-main, can-lower, Stands-above, ceilings, Above, offers, Listed, Offered, Faultless, Few-met, Many-met, lower-walk, kept-rows, old-list, ceilings-at, Lower-stopped}

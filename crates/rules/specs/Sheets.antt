@@ -35,5 +35,5 @@ pub record List-sheet (m : Meaning) (s : State) (sheet : List Place) : Type 0 wh
   pub chained : (i : ℕ) (r : Place) → nth sheet i ≡ Some r → (xs : List ModuleVersion) × (trail (suc i) sheet i ≡ r .row ∷ xs) × Chain m s (r .row ∷ xs)
 
 -- THE SHEET: so is the sheet that a list's walk writes, however it ends; of one that needs a 257th place, the first 256.
-abbrev pub Sheet-stands : Type 0
-Sheet-stands = (m : Meaning) (s : State) → List-sheet m s (take 256 (list-walk m s .sheet))
+abbrev pub Sheets-right : Type 0
+Sheets-right = (m : Meaning) (s : State) → List-sheet m s (take 256 (list-walk m s .sheet))

@@ -4,7 +4,7 @@ ghost use Rattle.rules.specs.Names.{Orders-right};
 ghost use Rattle.rules.specs.Tables.{Tables-right};
 ghost use Rattle.rules.specs.Layers.{Layer-right, Fallback-right, Two-layers-right, Pile-right};
 ghost use Rattle.rules.specs.Questions.{Questions-right};
-ghost use Rattle.rules.specs.Sheets.{Sheet-stands};
+ghost use Rattle.rules.specs.Sheets.{Sheets-right};
 ghost use Rattle.rules.specs.Lists.{List-right};
 ghost use Rattle.rules.specs.Faults.{Refusal-right};
 ghost use Rattle.rules.specs.Lowers.{Lower-right, Kept-meant, Sets-right};
@@ -64,7 +64,7 @@ pub fn questions_stand() -> u8
 
 // On the sheet of a list each place came from an earlier one, and the from numbers lead back along a chain.
 pub fn sheet_stands() -> u8
-    ensures { λ _. ⌜ Sheet-stands ⌝ }
+    ensures { λ _. ⌜ Sheets-right ⌝ }
 {
     0
 }
