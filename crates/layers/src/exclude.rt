@@ -20,17 +20,17 @@ use crate::exclusions::OtherRows;
 use crate::exclusions::OtherVersions;
 use crate::exclusions::exclude_row;
 use crate::exclusions::is_excluded;
-use source::fault::Fault;
-use source::fault::Found;
-use source::questions::ListingSource;
-use source::questions::Source;
 use crate::slices::keep;
-use source::slices::refuse;
 use causes::cause::Cause;
 use modules::exclusions::Exclusions;
 use modules::rows::ModuleVersion;
 use modules::rows::Row;
 use names::path::Path;
+use source::fault::Fault;
+use source::fault::Found;
+use source::questions::ListingSource;
+use source::questions::Source;
+use source::slices::refuse;
 use versions::version::PlainVersion;
 
 #[derive(Drop)]

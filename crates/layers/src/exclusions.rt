@@ -67,7 +67,10 @@ pub(crate) impl Test<PlainVersion> for OfPath<'_> as OtherVersions {
     ghost passes = { λ s v. not (is-among (exclusion-names (now (s .exclusions))) (at (plain-path-bytes (s .path)) (plain-version-bytes v))) };
 
     fn test(&self, item: &PlainVersion) -> bool {
-        let row = Row { path: self.path, version: *item };
+        let row = Row {
+            path: self.path,
+            version: *item,
+        };
         !is_excluded(self.exclusions, &row)
     }
 }

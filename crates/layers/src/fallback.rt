@@ -10,17 +10,17 @@ ghost use Rattle.modules.specs.Rows.{row-names, names-of};
 ghost use Rattle.source.specs.Answers.{answer-of};
 ghost use Rattle.layers.specs.Falling.{fallback-meaning};
 ghost use Rattle.layers.specs.Laws.{falling-back-lawful};
-use source::fault::Fault;
-use source::fault::Found;
 use crate::joining::lay_joined;
 use crate::joining::listing_of;
-use source::questions::ListingSource;
-use source::questions::Source;
-use source::slices::refuse;
 use causes::cause::Cause;
 use modules::rows::ModuleVersion;
 use modules::rows::Row;
 use names::path::Path;
+use source::fault::Fault;
+use source::fault::Found;
+use source::questions::ListingSource;
+use source::questions::Source;
+use source::slices::refuse;
 use versions::version::PlainVersion;
 
 #[derive(Drop)]

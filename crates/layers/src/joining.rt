@@ -10,12 +10,12 @@ ghost use Rattle.rules.specs.Questions.{told};
 ghost use Rattle.versions.specs.Values.{plain-version-bytes};
 ghost use Rattle.modules.specs.Tables.{listing-bytes};
 ghost use Rattle.source.specs.Answers.{answer-of};
-use source::fault::Fault;
-use source::fault::Found;
 use crate::slices::lay;
-use source::slices::refuse;
 use causes::cause::Cause;
 use modules::listing::Listing;
+use source::fault::Fault;
+use source::fault::Found;
+use source::slices::refuse;
 use versions::version::PlainVersion;
 
 // The listing that these versions are.
@@ -31,7 +31,11 @@ pub(crate) fn listing_of(versions: &[PlainVersion]) -> Listing
 }
 
 // A listing and the first `count` versions of a slice, joined in the slice.
-pub(crate) fn lay_joined(listing: &Listing, versions: &mut [PlainVersion], count: usize) -> Result<Found, Fault>
+pub(crate) fn lay_joined(
+    listing: &Listing,
+    versions: &mut [PlainVersion],
+    count: usize,
+) -> Result<Found, Fault>
     requires fits { ⌜ count ≤ length (now versions) ⌝ }
     requires long { ⌜ 64 ≤ length (now versions) ⌝ }
     ensures value { λ r. ⌜ answer-of r ≡ told blank-version (length (now (versions .entry))) (at-most-64 (listed (joined-versions (listing-bytes (now (listing .entry))) (map plain-version-bytes (take count (now (versions .entry))))))) .answer ⌝ }
@@ -41,7 +45,9 @@ pub(crate) fn lay_joined(listing: &Listing, versions: &mut [PlainVersion], count
         Some(both) => {
             let joined = both.as_slice();
             lay(versions, joined, PlainVersion::blank());
-            Ok(Found { count: joined.len() })
+            Ok(Found {
+                count: joined.len(),
+            })
         }
         None => refuse(versions, PlainVersion::blank(), Cause::TooManyToList),
     }

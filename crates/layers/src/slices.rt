@@ -16,7 +16,12 @@ pub(crate) trait Test<T> {
 }
 
 // Of the first `count` items moves those that pass to the front, and says how many.
-pub(crate) fn keep<T: Copy, P: Test<T>>(items: &mut [T], count: usize, passing: &P, blank: T) -> usize
+pub(crate) fn keep<T: Copy, P: Test<T>>(
+    items: &mut [T],
+    count: usize,
+    passing: &P,
+    blank: T,
+) -> usize
     requires { ⌜ count ≤ length (now items) ⌝ }
     ensures value { λ r. ⌜ r ≡ length (kept-by (P·Test .passes (now (passing .entry))) (take count (now (items .entry)))) ⌝ }
     ensures items { λ _. ⌜ now (items .exit) ≡ filled blank (length (now (items .entry))) (kept-by (P·Test .passes (now (passing .entry))) (take count (now (items .entry)))) ⌝ }

@@ -69,7 +69,3 @@ module _ {R X : Type 0} (f : R → X) (none : X) where
       go : (b : Answer (List X)) → fault g ≡ narrowed length b → b ≡ fault g
       go (found ys) p = let z : _≡_ {A = ℕ} 0 1 = cc in absurd (omega arith)
       go (fault k) p = let e : g ≡ k = cc in ap fault (sym e)
-
-  -- a fault in the place of another
-  pub tells-other : (n : ℕ) (g k : Fault) (a c : Answer (List X)) (r : Answer ℕ) (items : List R) → 64 ≤ n → Tells n a (fault g) items → c ≡ fault k → r ≡ fault k → Tells n c r items
-  tells-other n g k a c r items h t w p = tells n c (fault k) r items (given-long n c h ∙ w) p (t .1 ∙ ap (λ z. filled none n (found-in z)) (given-long n a h ∙ fault-told n g a items h t))

@@ -29,7 +29,7 @@ returns-in-Some c =
     let f = fitted _ (joins (c .args .count)) (c .in-Some .ensures tt ∙ ap (λ k. fitting 64 (joins k)) z) in
     let xs = c .as-slice-joined .result .now in
     let (value, items) = tells-found plain-version-bytes blank-version n (at-most-64 (found (joins (c .args .count)))) xs (c .blank .result) _ (c .lay .last .items) (c .pre .long)
-        (few-listed (joins (c .args .count)) (f .1) ∙ ap found (sym (c .as-slice-joined .ensures ∙ f .0))) (c .blank .ensures) refl (c .lay .ensures .items) in
+    (few-listed (joins (c .args .count)) (f .1) ∙ ap found (sym (c .as-slice-joined .ensures ∙ f .0))) (c .blank .ensures) refl (c .lay .ensures .items) in
     record { value = value; items = items }
 
 pub returns-in-None : need.returns-in-None
@@ -39,5 +39,5 @@ returns-in-None c =
     let joins = λ (k : ℕ). joined-versions (listing-bytes (c .args .listing .now)) (map plain-version-bytes (take k (c .args .versions .now))) in
     let many = unfitted (joins (c .args .count)) (c .in-None .ensures tt ∙ ap (λ k. fitting 64 (joins k)) z) in
     let (value, items) = tells-fault plain-version-bytes blank-version n (at-most-64 (found (joins (c .args .count)))) over-64 (c .blank-in-None .result) _ (c .refuse .last .items) (c .pre .long)
-        (many-listed (joins (c .args .count)) many) (c .blank-in-None .ensures) (c .refuse .ensures .value) (c .refuse .ensures .items) in
+    (many-listed (joins (c .args .count)) many) (c .blank-in-None .ensures) (c .refuse .ensures .value) (c .refuse .ensures .items) in
     record { value = value; items = items }

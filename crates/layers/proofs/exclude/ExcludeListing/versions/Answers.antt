@@ -3,13 +3,13 @@ use mathlib.Core.Bool.{not}
 use lib.ListN.{length, take}
 use Rattle.std.specs.shelf.Lists.{kept-by}
 use Rattle.rules.specs.Names.{has, at}
-use Rattle.rules.specs.Sources.{found, fault, deeper, excluding}
+use Rattle.rules.specs.Sources.{found, excluding}
 use Rattle.rules.specs.Slices.{blank-version, filled}
 use Rattle.names.specs.Paths.{path-bytes, plain-path-bytes}
 use Rattle.versions.specs.Values.{plain-version-bytes}
 use Rattle.modules.specs.Tables.{exclusion-names}
 use Rattle.source.proofs.Telling.{tells-short, tells-found, found-told, found-fits}
-use Rattle.layers.proofs.Layered.{excluded-listing, excluded-listing-fault}
+use Rattle.layers.proofs.Layered.{excluded-listing}
 use Rattle.layers.proofs.exclude.ExcludeListing.versions.Needs as need
 
 pub returns-then-versions-lt64 : need.returns-then-versions-lt64
@@ -32,6 +32,6 @@ returns-in-Ok g c =
     let path = ap (λ q. kept-by (λ v. not (has es (at (plain-path-bytes q) (plain-version-bytes v)))) vs) (c .plain .ensures) in
     let below = found-told plain-version-bytes blank-version n (c .in-Ok .found .count) (m .listing p) (c .versions .last .versions) (c .if-versions-lt64 .left) (c .in-Ok .ensures tt .value, c .in-Ok .ensures tt .items) in
     let (value, items) = tells-found plain-version-bytes blank-version n (excluding es m .listing p) kept (c .blank-in-Ok .result) (found (c .keep-count .result)) (c .keep-count .last .items) (c .if-versions-lt64 .left)
-        (excluded-listing es m p vs below) (c .blank-in-Ok .ensures) (ap found (c .keep-count .ensures .value ∙ ap length path))
-        (c .keep-count .ensures .items ∙ ap (filled (c .blank-in-Ok .result) (length (c .versions .last .versions))) path ∙ ap (λ k. filled (c .blank-in-Ok .result) k kept) (c .versions .kept .versions)) in
+    (excluded-listing es m p vs below) (c .blank-in-Ok .ensures) (ap found (c .keep-count .ensures .value ∙ ap length path))
+    (c .keep-count .ensures .items ∙ ap (filled (c .blank-in-Ok .result) (length (c .versions .last .versions))) path ∙ ap (λ k. filled (c .blank-in-Ok .result) k kept) (c .versions .kept .versions)) in
     record { same = ap (excluding es) (c .in-Ok .ensures tt .same); value = value; items = items; below = c .in-Ok .ensures tt .same; table = refl }

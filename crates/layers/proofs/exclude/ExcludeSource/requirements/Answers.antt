@@ -3,13 +3,12 @@ use mathlib.Core.Bool.{not}
 use lib.ListN.{length, take}
 use Rattle.std.specs.shelf.Lists.{kept-by}
 use Rattle.rules.specs.Names.{has}
-use Rattle.rules.specs.Sources.{found, fault, missing-here, deeper, excluding}
+use Rattle.rules.specs.Sources.{found, missing-here, excluding}
 use Rattle.rules.specs.Slices.{blank, filled}
 use Rattle.modules.specs.Rows.{row-names, names-of}
 use Rattle.modules.specs.Tables.{exclusion-names}
-use Rattle.source.specs.Answers.{fault-of}
-use Rattle.source.proofs.Telling.{tells-short, tells-fault, tells-found, tells-other, found-told, found-fits, fault-told}
-use Rattle.layers.proofs.Layered.{excluded-missing, excluded-found, excluded-fault}
+use Rattle.source.proofs.Telling.{tells-short, tells-fault, tells-found, found-told, found-fits}
+use Rattle.layers.proofs.Layered.{excluded-missing, excluded-found}
 use Rattle.layers.proofs.exclude.ExcludeSource.requirements.Needs as need
 
 pub returns-then-rows-lt64 : need.returns-then-rows-lt64
@@ -24,7 +23,7 @@ returns-then-is-excluded g c =
     let x = names-of (c .args .of .now) in
     let h = sym (c .if-is-excluded .ensures tt .value ∙ ap (λ r. has es (row-names r)) (c .row .ensures)) in
     let (value, items) = tells-fault row-names blank (length (c .args .rows .now)) _ missing-here (c .blank-then-is-excluded .result) _ (c .refuse-then-is-excluded .last .items) (c .if-rows-lt64 .left)
-        (excluded-missing es (g .S·Source .meaning (s .below)) x h) (c .blank-then-is-excluded .ensures) (c .refuse-then-is-excluded .ensures .value) (c .refuse-then-is-excluded .ensures .items) in
+    (excluded-missing es (g .S·Source .meaning (s .below)) x h) (c .blank-then-is-excluded .ensures) (c .refuse-then-is-excluded .ensures .value) (c .refuse-then-is-excluded .ensures .items) in
     record { same = refl; value = value; items = items; below = refl; table = refl }
 
 pub keep-count-requires : need.keep-count-requires
@@ -42,5 +41,5 @@ returns-in-Ok g c =
     let h = sym (c .if-is-excluded .ensures tt .value ∙ ap (λ r. has es (row-names r)) (c .row .ensures)) in
     let below = found-told row-names blank n (c .in-Ok .found .count) (m .requirements x) (c .requirements .last .rows) (c .if-rows-lt64 .left) (c .in-Ok .ensures tt .value, c .in-Ok .ensures tt .items) in
     let (value, items) = tells-found row-names blank n (excluding es m .requirements x) kept (c .blank-in-Ok .result) (found (c .keep-count .result)) (c .keep-count .last .items) (c .if-rows-lt64 .left)
-        (excluded-found es m x rows h below) (c .blank-in-Ok .ensures) (ap found (c .keep-count .ensures .value)) (c .keep-count .ensures .items ∙ ap (λ k. filled (c .blank-in-Ok .result) k kept) (c .requirements .kept .rows)) in
+    (excluded-found es m x rows h below) (c .blank-in-Ok .ensures) (ap found (c .keep-count .ensures .value)) (c .keep-count .ensures .items ∙ ap (λ k. filled (c .blank-in-Ok .result) k kept) (c .requirements .kept .rows)) in
     record { same = ap (excluding es) (c .in-Ok .ensures tt .same); value = value; items = items; below = c .in-Ok .ensures tt .same; table = refl }
