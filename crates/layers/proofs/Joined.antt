@@ -7,14 +7,13 @@ use native.Mathlib.Omega.{arith}
 use lib.Dec.{leb, ltb}
 use lib.ListN.{length, take}
 use Rattle.std.specs.Options.{whenTrue}
-use Rattle.std.specs.declared.option.Option.{Option}
 use Rattle.std.specs.declared.option.Option.the-variants.{Some, None}
 use Rattle.std.proofs.shelf.Lists.{length-map}
 use Rattle.std.proofs.shelf.Tests.{le-leb, leb-true, leb-false, le-ltb, lt-ltb}
 use Rattle.rules.specs.Orders.{Bytes}
 use Rattle.rules.specs.Versions.{version-order}
 use Rattle.rules.specs.Rows.{own, Ascending-versions, joined-versions}
-use Rattle.rules.specs.Sources.{Answer, found, fault, Meaning, Lawful, passed-up, both-listed, at-most-64, over-64, falling-back}
+use Rattle.rules.specs.Sources.{found, fault, Meaning, Lawful, passed-up, both-listed, at-most-64, over-64, falling-back}
 use Rattle.rules.proofs.Order.{versions, laws-of}
 use Rattle.rules.proofs.Tables.{tables-right}
 use Rattle.ordered.specs.Held.{fitting}

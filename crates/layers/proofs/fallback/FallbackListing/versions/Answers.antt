@@ -1,10 +1,10 @@
-use mathlib.Core.Path.{_≡_, refl, sym, ap, ap₂, _∙_}
+use mathlib.Core.Path.{refl, ap, ap₂, _∙_}
 use mathlib.Core.List.{map}
 use Prim.Native.Nat.{_≤_}
 use native.Mathlib.Omega.{arith}
 use lib.ListN.{length, take}
 use Rattle.rules.specs.Slices.{blank-version}
-use Rattle.rules.specs.Sources.{Answer, found, falling-back}
+use Rattle.rules.specs.Sources.{found, falling-back}
 use Rattle.rules.specs.Questions.{told}
 use Rattle.names.specs.Paths.{path-bytes}
 use Rattle.versions.specs.Values.{plain-version-bytes}
