@@ -1,0 +1,2 @@
+// What shelves and trees have in common: what a list of items means, and the versions that items hold, put into a listing one by one.
+pub mod listed;
