@@ -8,9 +8,9 @@ use Rattle.std.specs.declared.option.Option.the-variants.{Some, None}
 use Rattle.rules.specs.Orders.{Bytes}
 use Rattle.rules.specs.Names.{ModuleVersion}
 use Rattle.rules.specs.Versions.{version-order}
-use Rattle.rules.specs.Tables.{keep, entered-all}
+use Rattle.rules.specs.Tables.{keep, entered, entered-all}
 use Rattle.rules.specs.Rows.{own}
-use Rattle.rules.specs.Sources.{Answer, found, fault, Meaning, missing-here, at-most-64}
+use Rattle.rules.specs.Sources.{Answer, found, fault, Meaning, missing-here, over-64, at-most-64}
 
 module _ {I : Type 0} (is-of : ModuleVersion → I → Bool) where
   -- the first item of a module version
@@ -43,3 +43,15 @@ meaning-of is-of answer version-in items = record {
   requirements = λ x. answered answer (first-of is-of x items);
   listing = λ p. at-most-64 (found (version-table (versions-in version-in p items)));
 }
+
+-- ---- on the way
+
+-- a table with a version entered, if one is held
+abbrev pub entered-held : Option Bytes → List Bytes → List Bytes
+entered-held None t = t
+entered-held (Some v) t = entered own version-order keep v t
+
+-- the answer of a listing that was made, or was not since there are too many versions
+abbrev pub listing-answer : Option (List Bytes) → Answer (List Bytes)
+listing-answer None = fault over-64
+listing-answer (Some vs) = found vs
