@@ -67,12 +67,12 @@ abbrev all-entered : List Bytes → List Bytes → List Bytes
 all-entered = entered-all own version-order keep
 
 -- one item more: the version that it holds, if any, comes before those of the others
-pub entered-on : (o : Option Bytes) (t vs : List Bytes) → all-entered t (with-version o vs) ≡ all-entered (entered-held o t) vs
+entered-on : (o : Option Bytes) (t vs : List Bytes) → all-entered t (with-version o vs) ≡ all-entered (entered-held o t) vs
 entered-on None t vs = refl
 entered-on (Some v) t vs = refl
 
 -- there is no room for it, and so none for all
-pub no-listing : (o : Option Bytes) (t vs : List Bytes) → leb (length (entered-held o t)) 64 ≡ false → None ≡ fitting 64 (all-entered t (with-version o vs))
+no-listing : (o : Option Bytes) (t vs : List Bytes) → leb (length (entered-held o t)) 64 ≡ false → None ≡ fitting 64 (all-entered t (with-version o vs))
 no-listing o t vs e =
     let long = leb-false (length (entered-held o t)) 64 e in
     let least = entered-all-least own version-order keep (entered-held o t) vs in
@@ -96,3 +96,11 @@ pub rows-told : (n k : ℕ) (a : Answer (List ModuleVersion)) (rs left : List Mo
 rows-told n k a rs left h w e q =
     let given = given-long n a h ∙ w in
     (ap found e ∙ sym (ap (narrowed length) given), q ∙ sym (ap (λ z. filled blank n (found-in z)) given))
+
+-- a loop over items, where t is listed so far, and the versions of the items that are left begin with the one that the next holds
+module _ (all t vs rest : List Bytes) (o : Option Bytes) (so-far : all ≡ all-entered t vs) (is : vs ≡ with-version o rest) where
+  pub one-listed : (u : List Bytes) → u ≡ entered-held o t → all ≡ all-entered u rest
+  one-listed u e = so-far ∙ ap (all-entered t) is ∙ entered-on o t rest ∙ ap (λ w. all-entered w rest) (sym e)
+
+  pub not-listed : false ≡ leb (length (entered-held o t)) 64 → None ≡ fitting 64 all
+  not-listed e = no-listing o t rest (sym e) ∙ ap (fitting 64) (sym (so-far ∙ ap (all-entered t) is))

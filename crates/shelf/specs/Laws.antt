@@ -62,10 +62,7 @@ row-was left b v e = go (eqb left 0) refl e
         let n : left ≡ 0 → ⊥ = eqb-false left 0 t in
         (omega arith, p .0, p .1)
 
--- a record begins, or a row follows
-Begins : Expected → ℕ → Bytes → Expected → Type 0
-Begins w t b v = (t ≡ tag-M) × (is-path b ≡ true) × (v ≡ Version)
-
+-- a row follows
 abbrev Goes-on : ℕ → ℕ → Bytes → Expected → Type 0
 Goes-on left t b v = (t ≡ tag-R) × (0 < left) × (is-path b ≡ true) × (v ≡ RowVersion (left - 1))
 
@@ -145,7 +142,7 @@ not-both t e f = omega arith
 abbrev rows-by : Bool → Pair → List Pair → List ModuleVersion
 rows-by b q qs = cond b (named q ∷ rows-at qs) []
 
-pub few-at : (left : ℕ) (qs : List Pair) → Good left qs → length (rows-at qs) ≤ left
+few-at : (left : ℕ) (qs : List Pair) → Good left qs → length (rows-at qs) ≤ left
 few-at left [] g = omega arith
 few-at left (q ∷ qs) (f, inl (m, g)) = omega (arith, ap (λ b. length (rows-by b q qs)) (ne-eqb (q .tag) tag-R (λ e. not-both (q .tag) m e)))
 few-at left (q ∷ qs) (f, inr (r, some, g)) = omega (arith, few-at (left - 1) qs g, ap (λ b. length (rows-by b q qs)) (eq-eqb (q .tag) tag-R r))
@@ -176,6 +173,15 @@ records-sound left (q ∷ qs) (f, inl (m, g)) r h =
 records-sound left (q ∷ qs) (f, inr (t, some, g)) r h =
     records-sound (left - 1) qs g r (subst (λ b. r ∈ records-by b q qs) (ne-eqb (q .tag) tag-M (λ e. not-both (q .tag) e t)) h)
 
+held-is : (b : Bool) (w v : Bytes) → whenTrue b w ≡ Some v → w ≡ v
+held-is true w v e = cc
+held-is false w v e = let z : _≡_ {A = ℕ} 0 1 = cc in absurd (omega arith)
+
+good-formed : (left : ℕ) (qs : List Pair) → Good left qs → All (λ q. is-formed q ≡ true) qs
+good-formed left [] g = tt
+good-formed left (q ∷ qs) (f, inl (m, g)) = (f, good-formed 64 qs g)
+good-formed left (q ∷ qs) (f, inr (r, some, g)) = (f, good-formed (left - 1) qs g)
+
 module _ (bs : Bytes) (ok : is-shelf bs ≡ true) where
   sound : (r : Record) → r ∈ records (pairs-in bs) → Sound r
   sound = records-sound 0 (pairs-in bs) (shelf-good bs ok)
@@ -183,9 +189,15 @@ module _ (bs : Bytes) (ok : is-shelf bs ≡ true) where
   -- THE SHELF: what a shelf means is lawful
   pub shelf-lawful : Lawful (shelf-meaning bs)
   shelf-lawful = lawful is-record-of record-answer record-version (records (pairs-in bs)) (record {
-    few-rows = λ r h rs e. ?;
-    rows-formed = λ r h rs e. ?;
-    depth = λ r h f e. ?;
-    formed = λ p r h v e. ?;
-    holds = λ p v r h e. ?;
+    few-rows = λ r h rs e. let s : r .rows ≡ rs = cc in subst (λ xs. length xs ≤ 64) s (sound r h .few);
+    rows-formed = λ r h rs e. let s : r .rows ≡ rs = cc in subst (All (λ x. is-module-version x ≡ true)) s (sound r h .rows-formed);
+    depth = λ r h f e. let z : _≡_ {A = ℕ} 0 1 = cc in absurd (omega arith);
+    formed = λ p r h v e. subst (λ w. is-version w ≡ true) (held-is (sameBytes (r .names .path) p) (r .names .version) v e) (and-parts (is-path (r .names .path)) (is-version (r .names .version)) (sound r h .formed) .1);
+    holds = λ p v r h e.
+        let (path, version) = and-parts (sameBytes (r .names .path) p) (sameBytes (r .names .version) v) e in
+        ap (λ b. whenTrue b (r .names .version)) path ∙ ap Some (sameBytes-decides (r .names .version) v .0 version);
   })
+
+  -- its pairs are well formed
+  pub shelf-formed : All (λ q. is-formed q ≡ true) (pairs-in bs)
+  shelf-formed = good-formed 0 (pairs-in bs) (shelf-good bs ok)

@@ -5,11 +5,12 @@ use mathlib.Core.List.{List, [], _∷_}
 use lib.Dec.{eqb}
 use Rattle.std.specs.Options.{whenTrue}
 use Rattle.std.specs.declared.option.Option.{Option}
+use Rattle.std.specs.declared.option.Option.the-variants.{Some, None}
 use Rattle.std.specs.shelf.Text.{sameBytes}
 use Rattle.rules.specs.Orders.{Bytes}
 use Rattle.rules.specs.Names.{ModuleVersion, at}
 use Rattle.rules.specs.Sources.{Answer, found, Meaning}
-use Rattle.fields.specs.Pairs.{Pair, pairs-in}
+use Rattle.fields.specs.Pairs.{Pair, pairs-in, Pair-cut}
 use Rattle.bottoms.specs.Items.{meaning-of}
 use Rattle.shelf.specs.Grammar.{tag-M, tag-R}
 
@@ -46,3 +47,22 @@ record-version p r = whenTrue (sameBytes (r .names .path) p) (r .names .version)
 
 abbrev pub shelf-meaning : Bytes → Meaning
 shelf-meaning bs = meaning-of is-record-of record-answer record-version (records (pairs-in bs))
+
+-- ---- on the way, pair by pair
+
+-- the pair begins a record of a module version
+abbrev pub heads : ModuleVersion → Pair → Bool
+heads x q = eqb (q .tag) tag-M && are-names x (named q)
+
+-- the version that the pair holds for a path, if it begins a record
+abbrev pub head-version : Bytes → Pair → Option Bytes
+head-version p q = whenTrue (eqb (q .tag) tag-M && sameBytes (q .first) p) (q .second)
+
+-- the first pair, if it is a row
+abbrev pub row-cut : Option Pair-cut → Option Pair-cut
+row-cut None = None
+row-cut (Some p) = cond (eqb (p .pair .tag) tag-R) (Some p) None
+
+-- the rows of a record that is found
+abbrev pub record-rows : Record → List ModuleVersion
+record-rows r = r .rows

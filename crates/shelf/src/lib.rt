@@ -2,4 +2,6 @@
 // and then at most 64 pairs of fields R, a path, and W, a version: the rows that the module version requires.
 pub mod opening;
 pub mod order;
+pub mod questions;
+mod reading;
 pub mod shelf;
