@@ -31,3 +31,7 @@ file-version p file = version-held dot-mod p (file .first)
 
 abbrev pub tree-meaning : Bytes → Meaning
 tree-meaning bs = meaning-of is-file-of file-answer file-version (pairs-in bs)
+
+-- the body of a file that is found
+abbrev pub file-body : Pair → Bytes
+file-body file = file .second

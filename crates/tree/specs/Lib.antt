@@ -3,3 +3,4 @@ pub mod Escapes
 pub mod Filenames
 pub mod Files
 pub mod Laws
+pub mod Views
