@@ -1,10 +1,10 @@
 -- The steps of a loop that writes blanks. Assumes nothing.
-use mathlib.Core.Path.{_≡_, refl, sym, ap, _∙_}
-use mathlib.Core.List.{List, [], _∷_, _++_, map}
-use Prim.Native.Nat.{ℕ, zero, suc, _+_, _-_, _<_, _≤_}
+use mathlib.Core.Path.{_≡_, sym, ap, _∙_}
+use mathlib.Core.List.{List, [], _∷_, _++_}
+use Prim.Native.Nat.{ℕ, _+_, _-_, _<_, _≤_}
 use native.Mathlib.Omega.{arith}
 use lib.ListN.{length, take, set, replicate}
-use Rattle.std.proofs.shelf.Lists.{append-assoc, map-append, take-more-set, replicate-more, take-all}
+use Rattle.std.proofs.shelf.Lists.{append-assoc, take-more-set, replicate-more, take-all}
 
 module _ {X : Type 0} (b : X) where
   pub blanks-more : (front ys : List X) (s i : ℕ) → s ≤ i → i < length ys → take i ys ≡ front ++ replicate (i - s) b → take (i + 1) (set ys i b) ≡ front ++ replicate (i + 1 - s) b

@@ -1,5 +1,2 @@
 pub mod Blanks
 pub mod Telling
-pub mod Lookups
-pub mod Admitted
-pub mod Layered

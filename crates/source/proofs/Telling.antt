@@ -1,12 +1,11 @@
 -- What a question tells, by its parts: from what is told what the meaning answers, and back. Assumes nothing.
 use mathlib.Core.Path.{_≡_, refl, sym, ap, _∙_}
-use mathlib.Core.Bool.{Bool, true, false, cond}
+use mathlib.Core.Bool.{cond}
 use mathlib.Core.List.{List, [], _∷_, _++_, map}
 use Prim.Native.Nat.{ℕ, zero, suc, _-_, _≤_, _<_}
 use native.Mathlib.Omega.{arith}
 use lib.Dec.{leb}
 use lib.ListN.{length, replicate, take}
-use Rattle.std.specs.shelf.Lists.{kept-by}
 use Rattle.std.proofs.shelf.Tests.{le-leb, lt-leb}
 use Rattle.std.proofs.shelf.Lists.{length-append, length-map, map-append, take-at, take-map}
 use Rattle.rules.specs.Causes.{Fault}
@@ -23,15 +22,6 @@ given-long n a h = ap (λ b. cond b a (fault too-short)) (le-leb 64 n h)
 map-replicate : {R X : Type 0} (f : R → X) (n : ℕ) (b : R) → map f (replicate n b) ≡ replicate n (f b)
 map-replicate f zero b = refl
 map-replicate f (suc n) b = ap (λ ys. f b ∷ ys) (map-replicate f n b)
-
-pub kept-map : {R X : Type 0} (f : R → X) (test : X → Bool) (xs : List R) → map f (kept-by (λ x. test (f x)) xs) ≡ kept-by test (map f xs)
-kept-map f test [] = refl
-kept-map f test (x ∷ xs) = go (test (f x)) (kept-map f test xs)
-  where
-    go : (b : Bool) → map f (kept-by (λ x. test (f x)) xs) ≡ kept-by test (map f xs)
-        → map f (cond b (x ∷ kept-by (λ x. test (f x)) xs) (kept-by (λ x. test (f x)) xs)) ≡ cond b (f x ∷ kept-by test (map f xs)) (kept-by test (map f xs))
-    go true below = ap (λ ys. f x ∷ ys) below
-    go false below = below
 
 module _ {R X : Type 0} (f : R → X) (none : X) where
   -- r is answered, and the items are left, as the meaning's answer a asks in a slice of n places
@@ -79,7 +69,3 @@ module _ {R X : Type 0} (f : R → X) (none : X) where
       go : (b : Answer (List X)) → fault g ≡ narrowed length b → b ≡ fault g
       go (found ys) p = let z : _≡_ {A = ℕ} 0 1 = cc in absurd (omega arith)
       go (fault k) p = let e : g ≡ k = cc in ap fault (sym e)
-
-  -- a fault in the place of another
-  pub tells-other : (n : ℕ) (g k : Fault) (a c : Answer (List X)) (r : Answer ℕ) (items : List R) → 64 ≤ n → Tells n a (fault g) items → c ≡ fault k → r ≡ fault k → Tells n c r items
-  tells-other n g k a c r items h t w p = tells n c (fault k) r items (given-long n c h ∙ w) p (t .1 ∙ ap (λ z. filled none n (found-in z)) (given-long n a h ∙ fault-told n g a items h t))

@@ -1,11 +1,8 @@
-// What a source leaves in a lent slice: items in front, and a blank in every place behind them. The items are those found, or of those that
-// stand there the ones that pass a test; refused, there are none.
+// What a source leaves in a lent slice: what it found in front, and a blank in every place behind it. Refused, there are only blanks.
 ghost use mathlib.Core.Path.{_≡_};
-ghost use mathlib.Core.Bool.{Bool};
 ghost use mathlib.Core.List.{_++_, []};
-ghost use Prim.Native.Nat.{_-_, _≤_};
+ghost use Prim.Native.Nat.{_-_};
 ghost use lib.ListN.{length, replicate, take};
-ghost use Rattle.std.specs.shelf.Lists.{kept-by};
 ghost use Rattle.rules.specs.Slices.{filled};
 ghost use Rattle.rules.specs.Sources.{fault as no-answer};
 ghost use Rattle.causes.specs.Told.{cause-of};
@@ -30,41 +27,4 @@ pub fn refuse<T: Copy>(items: &mut [T], blank: T, cause: Cause) -> Result<Found,
 {
     blank_from(items, 0, blank);
     Err(Fault::here(cause))
-}
-
-// A test of items.
-pub trait Test<T> {
-    ghost passes: { Self → T → Bool };
-
-    fn test(&self, item: &T) -> bool
-        ensures value { λ r. ⌜ r ≡ passes (now (self .entry)) (now (item .entry)) ⌝ };
-}
-
-// Of the first `count` items moves those that pass to the front, and says how many.
-pub(crate) fn keep<T: Copy, P: Test<T>>(items: &mut [T], count: usize, passing: &P, blank: T) -> usize
-    requires { ⌜ count ≤ length (now items) ⌝ }
-    ensures value { λ r. ⌜ r ≡ length (kept-by (P·Test .passes (now (passing .entry))) (take count (now (items .entry)))) ⌝ }
-    ensures items { λ _. ⌜ now (items .exit) ≡ filled blank (length (now (items .entry))) (kept-by (P·Test .passes (now (passing .entry))) (take count (now (items .entry)))) ⌝ }
-{
-    let mut passed = 0;
-    for i in 0..count {
-        let item = items[i];
-        if passing.test(&item) {
-            items[passed] = item;
-            passed += 1;
-        }
-    }
-    blank_from(items, passed, blank);
-    passed
-}
-
-// Copies others to the front.
-pub(crate) fn lay<T: Copy>(items: &mut [T], others: &[T], blank: T)
-    requires { ⌜ length (now others) ≤ length (now items) ⌝ }
-    ensures items { λ _. ⌜ now (items .exit) ≡ filled blank (length (now (items .entry))) (now (others .entry)) ⌝ }
-{
-    for i in 0..others.len() {
-        items[i] = others[i];
-    }
-    blank_from(items, others.len(), blank);
 }

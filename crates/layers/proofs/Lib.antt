@@ -1,0 +1,4 @@
+pub mod Lookups
+pub mod Admitted
+pub mod Layered
+pub mod Joined
