@@ -113,9 +113,9 @@ module _ {I : Type 0} (is-of : ModuleVersion → I → Bool) (answer : I → Ans
       few-versions = λ p vs e. limited (version-table (listed p)) vs e .1;
       versions-formed = λ p vs e. all-from-members (λ v. is-version v ≡ true) vs
           (λ v h.
-              let there : v ∈ version-table (listed p) = subst (λ ws. v ∈ ws) (sym (limited (version-table (listed p)) vs e .0)) h in
-              let (i, k, s) = version-was p v items (table-was (listed p) v there) in
-              ok .formed p i k v s);
+          let there : v ∈ version-table (listed p) = subst (λ ws. v ∈ ws) (sym (limited (version-table (listed p)) vs e .0)) h in
+          let (i, k, s) = version-was p v items (table-was (listed p) v there) in
+          ok .formed p i k v s);
       ascending = λ p vs e. subst Ascending-versions (limited (version-table (listed p)) vs e .0) (table-ascends (listed p));
       whole = λ p vs e v rs r.
           let (i, h, t, a) = found-there (at p v) rs r in

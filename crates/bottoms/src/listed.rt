@@ -62,7 +62,10 @@ fn lay(versions: &mut [PlainVersion], listed: &[PlainVersion], blank: PlainVersi
 }
 
 // Answers a question for versions: with a listing, or, where none was to be made, that there are too many.
-pub fn answer_listing(listing: Option<Listing>, versions: &mut [PlainVersion]) -> Result<Found, Fault>
+pub fn answer_listing(
+    listing: Option<Listing>,
+    versions: &mut [PlainVersion],
+) -> Result<Found, Fault>
     ensures value { λ r. ⌜ answer-of r ≡ told blank-version (length (now (versions .entry))) (listing-answer (mapped listing-bytes listing)) .answer ⌝ }
     ensures items { λ _. ⌜ map plain-version-bytes (now (versions .exit)) ≡ told blank-version (length (now (versions .entry))) (listing-answer (mapped listing-bytes listing)) .slice ⌝ }
 {
@@ -75,5 +78,7 @@ pub fn answer_listing(listing: Option<Listing>, versions: &mut [PlainVersion]) -
     };
     let listed = listing.as_slice();
     lay(versions, listed, blank);
-    Ok(Found { count: listed.len() })
+    Ok(Found {
+        count: listed.len(),
+    })
 }

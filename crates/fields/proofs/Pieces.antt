@@ -24,15 +24,15 @@ field-size (t ∷ h ∷ l ∷ rest) f e =
     let it : Cut = record { tag = t; body = take (h * 256 + l) rest; after = drop (h * 256 + l) rest } in
     ⊎-elim
     (λ (fits : leb (h * 256 + l) (length rest) ≡ true).
-        let le = leb-true (h * 256 + l) (length rest) fits in
-        let x = cond-true (leb (h * 256 + l) (length rest)) (Some it) None fits in
-        let is : f ≡ it = cc in
-        let a : length (f .body) ≡ h * 256 + l = ap (λ (p : Cut). length (p .body)) is ∙ length-take-le (h * 256 + l) rest le in
-        let b : length (f .after) ≡ length rest - (h * 256 + l) = ap (λ (p : Cut). length (p .after)) is ∙ length-drop (h * 256 + l) rest in
-        omega arith)
+    let le = leb-true (h * 256 + l) (length rest) fits in
+    let x = cond-true (leb (h * 256 + l) (length rest)) (Some it) None fits in
+    let is : f ≡ it = cc in
+    let a : length (f .body) ≡ h * 256 + l = ap (λ (p : Cut). length (p .body)) is ∙ length-take-le (h * 256 + l) rest le in
+    let b : length (f .after) ≡ length rest - (h * 256 + l) = ap (λ (p : Cut). length (p .after)) is ∙ length-drop (h * 256 + l) rest in
+    omega arith)
     (λ (over : leb (h * 256 + l) (length rest) ≡ false).
-        let x = cond-false (leb (h * 256 + l) (length rest)) (Some it) None over in
-        let z : _≡_ {A = ℕ} 0 1 = cc in absurd (omega arith))
+    let x = cond-false (leb (h * 256 + l) (length rest)) (Some it) None over in
+    let z : _≡_ {A = ℕ} 0 1 = cc in absurd (omega arith))
     (cases-bool (leb (h * 256 + l) (length rest)))
 
 cut-same : (o : Option Cut) (g h : Bytes → List Piece) → ((f : Cut) → Some f ≡ o → g (f .after) ≡ h (f .after)) → cut-on g o ≡ cut-on h o

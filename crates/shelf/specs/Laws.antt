@@ -107,11 +107,11 @@ good-at left place (whole t a ∷ whole u b ∷ ps) h =
     let (w, f, j) = step (λ x. opened-from follow may-end x (place + 3 + length a + 3 + length b) ps) (place + 3 + length a) (follow v u b) k in
     ⊎-elim
     (λ (m : (t ≡ tag-M) × (is-path a ≡ true) × (v ≡ Version)).
-        let n = at-version u b w (ap (λ x. follow x u b) (sym (m .2)) ∙ f) in
-        (and-from (is-path a) (is-version b) (m .1) (n .0), inl (m .0, good-at 64 (place + 3 + length a + 3 + length b) ps (subst (λ x. Fine x (place + 3 + length a + 3 + length b) ps) (n .1) j))))
+    let n = at-version u b w (ap (λ x. follow x u b) (sym (m .2)) ∙ f) in
+    (and-from (is-path a) (is-version b) (m .1) (n .0), inl (m .0, good-at 64 (place + 3 + length a + 3 + length b) ps (subst (λ x. Fine x (place + 3 + length a + 3 + length b) ps) (n .1) j))))
     (λ (m : Goes-on left t a v).
-        let n = at-row-version (left - 1) u b w (ap (λ x. follow x u b) (sym (m .3)) ∙ f) in
-        (and-from (is-path a) (is-version b) (m .2) (n .0), inr (m .0, m .1, good-at (left - 1) (place + 3 + length a + 3 + length b) ps (subst (λ x. Fine x (place + 3 + length a + 3 + length b) ps) (n .1) j))))
+    let n = at-row-version (left - 1) u b w (ap (λ x. follow x u b) (sym (m .3)) ∙ f) in
+    (and-from (is-path a) (is-version b) (m .2) (n .0), inr (m .0, m .1, good-at (left - 1) (place + 3 + length a + 3 + length b) ps (subst (λ x. Fine x (place + 3 + length a + 3 + length b) ps) (n .1) j))))
     (at-row left t a v e)
 
 good-first : (place : ℕ) (ps : List Piece) → Fine Module place ps → Good 0 (pairs ps)
@@ -167,7 +167,7 @@ records-sound left (q ∷ qs) (f, inl (m, g)) r h =
     let here : (r ≡ record { names = named q; rows = rows-at qs }) ⊎ (r ∈ records qs) = subst (λ b. r ∈ records-by b q qs) (eq-eqb (q .tag) tag-M m) h in
     ⊎-elim
     (λ (e : r ≡ record { names = named q; rows = rows-at qs }).
-        subst Sound (sym e) (record { formed = f; few = few-at 64 qs g; rows-formed = rows-formed-at 64 qs g }))
+    subst Sound (sym e) (record { formed = f; few = few-at 64 qs g; rows-formed = rows-formed-at 64 qs g }))
     (λ (k : r ∈ records qs). records-sound 64 qs g r k)
     here
 records-sound left (q ∷ qs) (f, inr (t, some, g)) r h =

@@ -26,13 +26,21 @@ pub enum Expected {
 fn path_then(path: &[u8], then: Expected) -> Result<Expected, Cause>
     ensures value { λ r. ⌜ next-of r ≡ path-then (now (path .entry)) then ⌝ }
 {
-    if is_path_text(path) { Ok(then) } else { Err(Cause::BadPath) }
+    if is_path_text(path) {
+        Ok(then)
+    } else {
+        Err(Cause::BadPath)
+    }
 }
 
 fn version_then(version: &[u8], then: Expected) -> Result<Expected, Cause>
     ensures value { λ r. ⌜ next-of r ≡ version-then (now (version .entry)) then ⌝ }
 {
-    if is_version(version) { Ok(then) } else { Err(Cause::BadVersion) }
+    if is_version(version) {
+        Ok(then)
+    } else {
+        Err(Cause::BadVersion)
+    }
 }
 
 // A row more, if the record has room for it.

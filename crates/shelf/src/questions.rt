@@ -27,7 +27,9 @@ pub impl<'a> Source for Shelf<'a> as ShelfSource {
             return refuse(rows, Row::blank(), Cause::SliceTooShort);
         }
         match find_record(self.bytes, of) {
-            Some(record) => Ok(Found { count: copy_rows(record, rows) }),
+            Some(record) => Ok(Found {
+                count: copy_rows(record, rows),
+            }),
             None => refuse(rows, Row::blank(), Cause::Missing),
         }
     }

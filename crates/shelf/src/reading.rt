@@ -31,7 +31,9 @@ use versions::version::PlainVersion;
 fn is_head_of(pair: Pair<'_>, of: &ModuleVersion) -> bool
     ensures value { λ r. ⌜ r ≡ heads (names-of (now (of .entry))) (pair-cut-of (pair .entry) .pair) ⌝ }
 {
-    pair.tag == b'M' && same_bytes(pair.first, of.path.as_bytes()) && same_bytes(pair.second, of.version.as_bytes())
+    pair.tag == b'M'
+        && same_bytes(pair.first, of.path.as_bytes())
+        && same_bytes(pair.second, of.version.as_bytes())
 }
 
 // What stands behind the head of the first record of the module version.

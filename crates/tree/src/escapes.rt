@@ -76,7 +76,10 @@ fn behind_mark<'a>(bytes: &'a [u8]) -> Option<Letter<'a>>
         return None;
     };
     if is_lower(*low as char) {
-        Some(Letter { byte: *low - 32, after })
+        Some(Letter {
+            byte: *low - 32,
+            after,
+        })
     } else {
         None
     }

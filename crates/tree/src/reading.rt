@@ -45,7 +45,9 @@ pub(crate) fn read_manifest(body: &[u8], rows: &mut [Row]) -> Result<Found, Faul
 {
     let mut excluded = [Row::blank(); 32];
     match read(body, Owner::Source, rows, &mut excluded) {
-        Ok(manifest) => Ok(Found { count: manifest.required }),
+        Ok(manifest) => Ok(Found {
+            count: manifest.required,
+        }),
         Err(refusal) => Err(Fault {
             cause: refusal.cause,
             place: refusal.place,

@@ -16,14 +16,14 @@ use Rattle.bottoms.proofs.listed.answer_listing.Needs as need
 pub returns-then-versions-lt-MOST : need.returns-then-versions-lt-MOST
 returns-then-versions-lt-MOST c =
     let (value, items) = tells-short plain-version-bytes blank-version (length (c .args .versions .now)) _ (c .blank-blank .result) _ (c .refuse .last .items)
-        (c .if-versions-lt-MOST .taken) (c .blank-blank .ensures) (c .refuse .ensures .value) (c .refuse .ensures .items) in
+    (c .if-versions-lt-MOST .taken) (c .blank-blank .ensures) (c .refuse .ensures .value) (c .refuse .ensures .items) in
     record { value = value; items = items }
 
 pub returns-in-rest : need.returns-in-rest
 returns-in-rest c =
     let (value, items) = tells-fault plain-version-bytes blank-version (length (c .args .versions .now)) (listing-answer (mapped listing-bytes (c .args .listing))) over-64 (c .blank-blank .result) _
-        (c .refuse-in-rest .last .items) (c .if-versions-lt-MOST .left) (ap (λ o. listing-answer (mapped listing-bytes o)) (c .in-rest .is))
-        (c .blank-blank .ensures) (c .refuse-in-rest .ensures .value) (c .refuse-in-rest .ensures .items) in
+    (c .refuse-in-rest .last .items) (c .if-versions-lt-MOST .left) (ap (λ o. listing-answer (mapped listing-bytes o)) (c .in-rest .is))
+    (c .blank-blank .ensures) (c .refuse-in-rest .ensures .value) (c .refuse-in-rest .ensures .items) in
     record { value = value; items = items }
 
 pub lay-requires : need.lay-requires
@@ -33,7 +33,7 @@ lay-requires c κs =
 pub returns : need.returns
 returns c =
     let (value, items) = tells-found plain-version-bytes blank-version (length (c .args .versions .now)) (listing-answer (mapped listing-bytes (c .args .listing)))
-        (c .as-slice-listed .result .now) (c .blank-blank .result) _ (c .lay .last .versions) (c .if-versions-lt-MOST .left)
-        (ap (λ o. listing-answer (mapped listing-bytes o)) (c .in-Some .is) ∙ ap found (sym (c .as-slice-listed .ensures)))
-        (c .blank-blank .ensures) refl (c .lay .ensures .items) in
+    (c .as-slice-listed .result .now) (c .blank-blank .result) _ (c .lay .last .versions) (c .if-versions-lt-MOST .left)
+    (ap (λ o. listing-answer (mapped listing-bytes o)) (c .in-Some .is) ∙ ap found (sym (c .as-slice-listed .ensures)))
+    (c .blank-blank .ensures) refl (c .lay .ensures .items) in
     record { value = value; items = items }

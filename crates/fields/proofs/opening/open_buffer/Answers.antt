@@ -34,9 +34,10 @@ loop-rest-less g c = omega (arith, field-size (c .loop-rest .rest .now) (cut-of 
 
 pub loop-rest-again : need.loop-rest-again
 loop-rest-again g c =
-    let size = field-size (c .loop-rest .rest .now) (cut-of (c .in-Some .field)) (c .in-Some .ensures tt .value) in
-    (omega (arith, c .loop-rest .inv .0),
-      c .loop-rest .inv .1 ∙ one-more _ _ _ _ _ _ (c .in-Some .ensures tt .value) _ (c .loop-rest .inv .0) (c .in-Ok .ensures tt .value))
+    let size = field-size (c .loop-rest .rest .now) (cut-of (c .in-Some .field)) (c .in-Some .ensures tt .value) in (
+      omega (arith, c .loop-rest .inv .0),
+      c .loop-rest .inv .1 ∙ one-more _ _ _ _ _ _ (c .in-Some .ensures tt .value) _ (c .loop-rest .inv .0) (c .in-Ok .ensures tt .value),
+    )
 
 pub returns-then-may-end : need.returns-then-may-end
 returns-then-may-end g c =

@@ -18,7 +18,7 @@ pub row-of-requires : need.row-of-requires
 row-of-requires c κs =
     let p = pair-cut-of (c .in-Some .pair) in
     let formed : All (λ r. is-module-version r ≡ true) (named (p .pair) ∷ rows-at (pairs-in (p .after)))
-        = subst (All (λ r. is-module-version r ≡ true)) (rows-more (c .loop-pair .rest .now) p (c .in-Some .ensures tt .value)) (c .loop-pair .inv .2) in
+    = subst (All (λ r. is-module-version r ≡ true)) (rows-more (c .loop-pair .rest .now) p (c .in-Some .ensures tt .value)) (c .loop-pair .inv .2) in
     formed .0
 
 pub index-rows-count : need.index-rows-count
@@ -37,17 +37,18 @@ loop-pair-again c =
     let n = c .loop-pair .count in
     let more = rows-more (c .loop-pair .rest .now) p (c .in-Some .ensures tt .value) in
     let room = still-room row-names n out (rows-at (pairs-in (c .args .bytes .now))) (rows-at (pairs-in (c .loop-pair .rest .now))) (c .loop-pair .inv .0) (c .loop-pair .inv .1)
-        (named (p .pair)) (rows-at (pairs-in (p .after))) more (omega (arith, c .pre .0, c .loop-pair .kept .rows)) in
-    let formed : All (λ r. is-module-version r ≡ true) (named (p .pair) ∷ rows-at (pairs-in (p .after))) = subst (All (λ r. is-module-version r ≡ true)) more (c .loop-pair .inv .2) in
-    (omega (arith, room, length-set out n (c .row-of .result)),
+    (named (p .pair)) (rows-at (pairs-in (p .after))) more (omega (arith, c .pre .0, c .loop-pair .kept .rows)) in
+    let formed : All (λ r. is-module-version r ≡ true) (named (p .pair) ∷ rows-at (pairs-in (p .after))) = subst (All (λ r. is-module-version r ≡ true)) more (c .loop-pair .inv .2) in (
+      omega (arith, room, length-set out n (c .row-of .result)),
       one-copied row-names n out (rows-at (pairs-in (c .args .bytes .now))) (rows-at (pairs-in (c .loop-pair .rest .now))) (c .loop-pair .inv .0) (c .loop-pair .inv .1)
-      (c .row-of .result) (rows-at (pairs-in (p .after))) (more ∙ ap (λ (x : ModuleVersion). x ∷ rows-at (pairs-in (p .after))) (sym (c .row-of .ensures .value))) room,
-      formed .1)
+          (c .row-of .result) (rows-at (pairs-in (p .after))) (more ∙ ap (λ (x : ModuleVersion). x ∷ rows-at (pairs-in (p .after))) (sym (c .row-of .ensures .value))) room,
+      formed .1,
+    )
 
 pub returns : need.returns
 returns c =
     let all = all-copied row-names (c .loop-pair .count) (c .loop-pair .rows) (rows-at (pairs-in (c .args .bytes .now))) (rows-at (pairs-in (c .loop-pair .rest .now))) (c .loop-pair .inv .0) (c .loop-pair .inv .1)
-        (rows-none (c .loop-pair .rest .now) (c .in-rest .ensures tt .value)) in
+    (rows-none (c .loop-pair .rest .now) (c .in-rest .ensures tt .value)) in
     record {
       value = all .0;
       items = blanks-behind row-names (length (c .args .rows .now)) (c .loop-pair .count) (c .loop-pair .rows) (c .blank-from .last .items) (c .blank .result) (rows-at (pairs-in (c .args .bytes .now)))

@@ -25,7 +25,7 @@ pub version-of-requires : need.version-of-requires
 version-of-requires c κs =
     let p = pair-cut-of (c .in-Some .pair) in
     let formed : All (λ q. is-formed q ≡ true) (p .pair ∷ pairs-in (p .after))
-        = subst (All (λ (q : Pair). is-formed q ≡ true)) (pairs-some (c .loop-pair .rest .now) p (c .in-Some .ensures tt .value)) (c .loop-pair .inv .1) in
+    = subst (All (λ (q : Pair). is-formed q ≡ true)) (pairs-some (c .loop-pair .rest .now) p (c .in-Some .ensures tt .value)) (c .loop-pair .inv .1) in
     formed .0
 
 pub loop-pair-less : need.loop-pair-less
@@ -44,11 +44,12 @@ pub loop-pair-again : need.loop-pair-again
 loop-pair-again c =
     let p = pair-cut-of (c .in-Some .pair) in
     let formed : All (λ q. is-formed q ≡ true) (p .pair ∷ pairs-in (p .after))
-        = subst (All (λ (q : Pair). is-formed q ≡ true)) (pairs-some (c .loop-pair .rest .now) p (c .in-Some .ensures tt .value)) (c .loop-pair .inv .1) in
-    (one-listed _ (listing-bytes (c .loop-pair .listing)) _ _ (mapped plain-version-bytes (c .version-of .result)) (c .loop-pair .inv .0)
-      (versions-left (c .args .path .now) (c .loop-pair .rest .now) p (c .in-Some .ensures tt .value) (mapped plain-version-bytes (c .version-of .result)) (c .version-of .ensures .value))
-      (listing-bytes (c .list-held .last .listing)) (c .if-not-list-held .ensures tt .after),
-      formed .1)
+    = subst (All (λ (q : Pair). is-formed q ≡ true)) (pairs-some (c .loop-pair .rest .now) p (c .in-Some .ensures tt .value)) (c .loop-pair .inv .1) in (
+      one-listed _ (listing-bytes (c .loop-pair .listing)) _ _ (mapped plain-version-bytes (c .version-of .result)) (c .loop-pair .inv .0)
+          (versions-left (c .args .path .now) (c .loop-pair .rest .now) p (c .in-Some .ensures tt .value) (mapped plain-version-bytes (c .version-of .result)) (c .version-of .ensures .value))
+          (listing-bytes (c .list-held .last .listing)) (c .if-not-list-held .ensures tt .after),
+      formed .1,
+    )
 
 pub returns : need.returns
 returns c =

@@ -16,7 +16,7 @@ use Rattle.shelf.proofs.reading.list_versions.Given as given
 abbrev pub Inv-loop-pair : given.InvT-loop-pair
 Inv-loop-pair l =
     (version-table (versions-in record-version (l .path) (records (pairs-in (l .bytes))))
-        ≡ entered-all own version-order keep (listing-bytes (l .listing)) (versions-in record-version (l .path) (records (pairs-in (l .rest)))))
+    ≡ entered-all own version-order keep (listing-bytes (l .listing)) (versions-in record-version (l .path) (records (pairs-in (l .rest)))))
     × All (λ q. is-formed q ≡ true) (pairs-in (l .rest))
 
 abbrev pub μ-loop-pair : given.MeasureT-loop-pair

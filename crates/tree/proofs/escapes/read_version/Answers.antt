@@ -24,7 +24,9 @@ loop-letter-less c = omega (arith, letter-size (c .loop-letter .rest .now) (lett
 
 pub loop-letter-again : need.loop-letter-again
 loop-letter-again c =
-    let inv = c .loop-letter .inv in
-    (omega (arith, inv .0, c .if-len-eq-LONGEST .left), length-set (c .loop-letter .version) (c .loop-letter .len) (c .in-Some .letter .byte) ∙ inv .1,
+    let inv = c .loop-letter .inv in (
+      omega (arith, inv .0, c .if-len-eq-LONGEST .left),
+      length-set (c .loop-letter .version) (c .loop-letter .len) (c .in-Some .letter .byte) ∙ inv .1,
       one-read (c .args .bytes .now) (c .loop-letter .version) (c .loop-letter .rest .now) (c .loop-letter .len) (inv .2) (letter-cut-of (c .in-Some .letter)) (c .in-Some .ensures tt .value)
-      (omega (arith, inv .0, inv .1, c .if-len-eq-LONGEST .left)))
+          (omega (arith, inv .0, inv .1, c .if-len-eq-LONGEST .left)),
+    )

@@ -17,7 +17,7 @@ use Rattle.shelf.proofs.questions.ShelfSource.requirements.Needs as need
 pub returns-then-rows-lt64 : need.returns-then-rows-lt64
 returns-then-rows-lt64 c =
     let (value, items) = tells-short row-names blank (length (c .args .rows .now)) _ (c .blank .result) _ (c .refuse .last .items)
-        (c .if-rows-lt64 .taken) (c .blank .ensures) (c .refuse .ensures .value) (c .refuse .ensures .items) in
+    (c .if-rows-lt64 .taken) (c .blank .ensures) (c .refuse .ensures .value) (c .refuse .ensures .items) in
     record { same = refl; value = value; items = items }
 
 pub copy-rows-requires : need.copy-rows-requires
@@ -44,5 +44,5 @@ returns-in-None c =
     let x = names-of (c .args .of .now) in
     let is = record-missing (first-of is-record-of x (records (pairs-in bs))) (c .in-None .ensures tt .value) in
     let (value, items) = tells-fault row-names blank (length (c .args .rows .now)) (shelf-meaning bs .requirements x) missing-here (c .blank-in-None .result) _ (c .refuse-in-None .last .items)
-        (c .if-rows-lt64 .left) is (c .blank-in-None .ensures) (c .refuse-in-None .ensures .value) (c .refuse-in-None .ensures .items) in
+    (c .if-rows-lt64 .left) is (c .blank-in-None .ensures) (c .refuse-in-None .ensures .value) (c .refuse-in-None .ensures .items) in
     record { same = refl; value = value; items = items }

@@ -15,7 +15,7 @@ use Rattle.tree.proofs.questions.TreeSource.requirements.Needs as need
 pub returns-then-rows-lt64 : need.returns-then-rows-lt64
 returns-then-rows-lt64 c =
     let (value, items) = tells-short row-names blank (length (c .args .rows .now)) _ (c .blank .result) _ (c .refuse .last .items)
-        (c .if-rows-lt64 .taken) (c .blank .ensures) (c .refuse .ensures .value) (c .refuse .ensures .items) in
+    (c .if-rows-lt64 .taken) (c .blank .ensures) (c .refuse .ensures .value) (c .refuse .ensures .items) in
     record { same = refl; value = value; items = items }
 
 pub returns-in-Some : need.returns-in-Some
@@ -34,5 +34,5 @@ returns-in-None c =
     let x = names-of (c .args .of .now) in
     let is = file-missing (first-of is-file-of x (pairs-in bs)) (c .in-None .ensures tt .value) in
     let (value, items) = tells-fault row-names blank (length (c .args .rows .now)) (tree-meaning bs .requirements x) missing-here (c .blank-in-None .result) _ (c .refuse-in-None .last .items)
-        (c .if-rows-lt64 .left) is (c .blank-in-None .ensures) (c .refuse-in-None .ensures .value) (c .refuse-in-None .ensures .items) in
+    (c .if-rows-lt64 .left) is (c .blank-in-None .ensures) (c .refuse-in-None .ensures .value) (c .refuse-in-None .ensures .items) in
     record { same = refl; value = value; items = items }
