@@ -1,0 +1,3 @@
+pub mod Cut
+pub mod Pieces
+pub mod Openings

@@ -1,0 +1,6 @@
+pub mod Grammar
+pub mod Escapes
+pub mod Filenames
+pub mod Files
+pub mod Laws
+pub mod Views
