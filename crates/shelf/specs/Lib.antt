@@ -1,3 +1,4 @@
 pub mod Grammar
 pub mod Records
 pub mod Laws
+pub mod Examples

@@ -13,13 +13,14 @@ use Rattle.std.specs.declared.option.Option.the-variants.{Some, None}
 use Rattle.std.specs.shelf.Text.{sameBytes}
 use Rattle.std.proofs.shelf.Equals.{sameBytes-decides}
 use Rattle.std.proofs.shelf.Lists.{append-assoc, append-nil, length-append, take-rest, take-more-set}
-use Rattle.std.proofs.shelf.Tests.{eqb-true, eq-eqb, leb-true, and-parts}
+use Rattle.std.proofs.shelf.Tests.{eqb-true, eq-eqb, leb-true, le-leb, and-parts, and-from}
 use Rattle.rules.specs.Orders.{Bytes}
 use Rattle.rules.specs.Versions.{is-release, is-version}
 use Rattle.rules.specs.Names.{ModuleVersion, at}
 use Rattle.tree.specs.Escapes.{mark, is-upper, is-lower, written, escaped, Letter-cut, behind-mark, letter-of, unescaped}
 use Rattle.tree.specs.Filenames.{between, file-name, behind, before, bound, formed-version, version-written, version-held}
-use Rattle.tree.specs.Laws.{behind-text, before-text}
+use Rattle.tree.specs.Examples.{Names-right}
+use Rattle.tree.specs.Laws.{behind-text, before-text, name-holds, held-formed}
 
 -- ---- what stands behind a text and before one
 
@@ -238,3 +239,69 @@ module _ (bs out rest : Bytes) (n : ℕ) (so-far : unescaped bs ≡ mapped (λ t
 
   pub all-read : rest ≡ [] → version-written bs ≡ whenTrue (is-version (take n out)) (take n out)
   all-read e = ap (bound formed-version) (so-far ∙ ap (λ t. mapped (λ t. take n out ++ t) (unescaped t)) e ∙ ap Some (append-nil (take n out)))
+
+-- ---- what a name holds
+
+lower-upper : (c : ℕ) → is-lower c ≡ true → (is-upper (c - 32) ≡ true) × (c - 32 + 32 ≡ c)
+lower-upper c e =
+    let (low, high) = and-parts (leb 97 c) (leb c 122) e in
+    let l = leb-true 97 c low in
+    let h = leb-true c 122 high in
+    (and-from (leb 65 (c - 32)) (leb (c - 32) 90) (le-leb 65 (c - 32) (omega arith)) (le-leb (c - 32) 90 (omega arith)), omega arith)
+
+abbrev spelt : Bool → ℕ → Bytes → Bytes
+spelt upper b bs = cond upper (mark ∷ (b + 32) ∷ []) (b ∷ []) ++ bs
+
+unescaped-was : (t v : Bytes) → unescaped t ≡ Some v → t ≡ escaped v
+unescaped-was [] v e = let s : [] ≡ v = cc in ap escaped s
+unescaped-was (b ∷ []) v e = go (eqb b mark) (is-upper b) refl e
+  where
+    go : (x y : Bool) → is-upper b ≡ y → cond x None (cond y None (Some (b ∷ []))) ≡ Some v → b ∷ [] ≡ escaped v
+    go true y u f = let z : _≡_ {A = ℕ} 0 1 = cc in absurd (omega arith)
+    go false true u f = let z : _≡_ {A = ℕ} 0 1 = cc in absurd (omega arith)
+    go false false u f = let s : b ∷ [] ≡ v = cc in sym (ap (λ z. spelt z b []) u) ∙ ap escaped s
+unescaped-was (b ∷ c ∷ bs) v e = go (unescaped-was bs) (unescaped-was (c ∷ bs)) (eqb b mark) (is-upper b) (is-lower c) refl refl refl e
+  where
+    marked : ((w : Bytes) → unescaped bs ≡ Some w → bs ≡ escaped w) → eqb b mark ≡ true → is-lower c ≡ true → (o : Option Bytes) → unescaped bs ≡ o → mapped (λ t. (c - 32) ∷ t) o ≡ Some v → b ∷ c ∷ bs ≡ escaped v
+    marked below m low None h f = let z : _≡_ {A = ℕ} 0 1 = cc in absurd (omega arith)
+    marked below m low (Some w) h f =
+        let s : (c - 32) ∷ w ≡ v = cc in
+        let (upper, back) = lower-upper c low in
+        ap (λ x. x ∷ c ∷ bs) (eqb-true b mark m) ∙ ap (λ x. mark ∷ x ∷ bs) (sym back) ∙ ap (λ x. mark ∷ (c - 32 + 32) ∷ x) (below w h)
+        ∙ sym (ap (λ z. spelt z (c - 32) (escaped w)) upper) ∙ ap escaped s
+
+    plain : ((w : Bytes) → unescaped (c ∷ bs) ≡ Some w → c ∷ bs ≡ escaped w) → is-upper b ≡ false → (o : Option Bytes) → unescaped (c ∷ bs) ≡ o → mapped (λ t. b ∷ t) o ≡ Some v → b ∷ c ∷ bs ≡ escaped v
+    plain below u None h f = let z : _≡_ {A = ℕ} 0 1 = cc in absurd (omega arith)
+    plain below u (Some w) h f = let s : b ∷ w ≡ v = cc in ap (λ x. b ∷ x) (below w h) ∙ sym (ap (λ z. spelt z b (escaped w)) u) ∙ ap escaped s
+
+    go : ((w : Bytes) → unescaped bs ≡ Some w → bs ≡ escaped w) → ((w : Bytes) → unescaped (c ∷ bs) ≡ Some w → c ∷ bs ≡ escaped w) → (x y z : Bool) → eqb b mark ≡ x → is-upper b ≡ y → is-lower c ≡ z
+        → cond x (cond z (mapped (λ t. (c - 32) ∷ t) (unescaped bs)) None) (cond y None (mapped (λ t. b ∷ t) (unescaped (c ∷ bs)))) ≡ Some v → b ∷ c ∷ bs ≡ escaped v
+    go behind on true y true m u low f = marked behind m low (unescaped bs) refl f
+    go behind on true y false m u low f = let o : _≡_ {A = ℕ} 0 1 = cc in absurd (omega arith)
+    go behind on false true z m u low f = let o : _≡_ {A = ℕ} 0 1 = cc in absurd (omega arith)
+    go behind on false false z m u low f = plain on u (unescaped (c ∷ bs)) refl f
+
+-- what a chain of steps found
+bound-was : {A B : Type 0} (f : A → Option B) (o : Option A) (y : B) → bound f o ≡ Some y → (x : A) × (o ≡ Some x) × (f x ≡ Some y)
+bound-was f None y e = let z : _≡_ {A = ℕ} 0 1 = cc in absurd (omega arith)
+bound-was f (Some x) y e = (x, refl, e)
+
+test-was : (w v : Bytes) (b : Bool) → whenTrue b w ≡ Some v → w ≡ v
+test-was w v true e = cc
+test-was w v false e = let z : _≡_ {A = ℕ} 0 1 = cc in absurd (omega arith)
+
+held-was : (ending p name v : Bytes) → version-held ending p name ≡ Some v → name ≡ file-name ending (at p v)
+held-was ending p name v e =
+    let (text, e1, f1) = bound-was version-written (bound (before ending) (bound (behind between) (behind (escaped p) name))) v e in
+    let (rest, e2, f2) = bound-was (before ending) (bound (behind between) (behind (escaped p) name)) text e1 in
+    let (more, e3, f3) = bound-was (behind between) (behind (escaped p) name) rest e2 in
+    let (w, e4, f4) = bound-was formed-version (unescaped text) v f1 in
+    behind-was (escaped p) name more e3
+    ∙ ap (λ x. escaped p ++ x) (behind-was between more rest f3
+        ∙ ap (λ x. between ++ x) (before-was ending rest text f2 ∙ ap (λ x. x ++ ending) (unescaped-was text w e4 ∙ ap escaped (test-was w v (is-version w) f4))))
+
+pub names-right : Names-right
+names-right ending p name v = (
+  λ e. (held-formed ending p name v e, held-was ending p name v e),
+  λ (formed, is). ap (version-held ending p) is ∙ name-holds ending p v formed,
+)

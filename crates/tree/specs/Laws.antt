@@ -237,7 +237,7 @@ before-text (b ∷ bs) ending = go (sameBytes (b ∷ (bs ++ ending)) ending) ref
     go true h below = let s : b ∷ (bs ++ ending) ≡ ending = sameBytes-decides _ _ .0 h in absurd (omega (arith, ap length s, length-append bs ending))
     go false h below = ap (mapped (λ f. b ∷ f)) below
 
-name-holds : (ending p v : Bytes) → is-version v ≡ true → version-held ending p (file-name ending (at p v)) ≡ Some v
+pub name-holds : (ending p v : Bytes) → is-version v ≡ true → version-held ending p (file-name ending (at p v)) ≡ Some v
 name-holds ending p v e =
     ap (λ o. bound version-written (bound (before ending) (bound (behind between) o))) (behind-text (escaped p) (between ++ (escaped v ++ ending)))
     ∙ ap (λ o. bound version-written (bound (before ending) o)) (behind-text between (escaped v ++ ending))
@@ -245,7 +245,7 @@ name-holds ending p v e =
     ∙ ap (bound formed-version) (read-again v (version-plain v e))
     ∙ ap (λ b. whenTrue b v) e
 
-held-formed : (ending p name v : Bytes) → version-held ending p name ≡ Some v → is-version v ≡ true
+pub held-formed : (ending p name v : Bytes) → version-held ending p name ≡ Some v → is-version v ≡ true
 held-formed ending p name v e = by-text (bound (before ending) (bound (behind between) (behind (escaped p) name))) e
   where
     by-test : (w : Bytes) (b : Bool) → is-version w ≡ b → whenTrue b w ≡ Some v → is-version v ≡ true

@@ -4,3 +4,4 @@ pub mod Filenames
 pub mod Files
 pub mod Laws
 pub mod Views
+pub mod Examples
