@@ -1,2 +1,4 @@
 pub mod Telling
 pub mod Writing
+pub mod Walking
+pub mod Starting

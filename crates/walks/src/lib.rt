@@ -2,4 +2,6 @@
 // what each place requires. The list is made from the sheet: of each path the highest version.
 pub mod place;
 mod sheet;
+mod start;
 mod stop;
+mod walk;
