@@ -2,3 +2,4 @@ pub mod Telling
 pub mod Writing
 pub mod Walking
 pub mod Starting
+pub mod Entering

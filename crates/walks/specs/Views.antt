@@ -1,13 +1,14 @@
 -- A walk over any source and from any rows: what a walk sees, its sheet at the start, one question of it, and the whole. Assumes nothing.
 use mathlib.Core.Path.{_≡_}
-use mathlib.Core.Bool.{true}
+use mathlib.Core.Bool.{true, cond}
 use mathlib.Core.List.{List, []}
 use Prim.Native.Nat.{ℕ, _≤_}
 use Rattle.std.specs.Finite.{nth}
 use Rattle.std.specs.declared.option.Option.the-variants.{Some}
 use Rattle.rules.specs.Orders.{Bytes}
-use Rattle.rules.specs.Names.{ModuleVersion, is-module-version}
+use Rattle.rules.specs.Names.{ModuleVersion, is-module-version, same-path}
 use Rattle.rules.specs.Sources.{Meaning}
+use Rattle.rules.specs.Rows.{with-row}
 use Rattle.rules.specs.Projects.{State, View, off-main, remaining}
 use Rattle.rules.specs.Walks.{Place, written, Walked, ended, done, if-room, questioned, walk, first-sheet}
 
@@ -18,6 +19,10 @@ bare main = record { main = main; rows = []; exclusions = [] }
 -- other modules as a source means them
 abbrev pub seen-by : Bytes → Meaning → View
 seen-by main m = record { main = main; layer = m }
+
+-- a table with a row entered, unless it is on the main path
+abbrev pub entered-off : Bytes → ModuleVersion → List ModuleVersion → List ModuleVersion
+entered-off main x t = cond (same-path x main) t (with-row x t)
 
 -- every row but the main row is well formed
 abbrev pub Formed : List Place → Type 0
