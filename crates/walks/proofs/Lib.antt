@@ -3,3 +3,4 @@ pub mod Writing
 pub mod Walking
 pub mod Starting
 pub mod Entering
+pub mod Listing
