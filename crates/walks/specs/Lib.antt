@@ -1,0 +1,4 @@
+pub mod Places
+pub mod Stops
+pub mod Views
+pub mod Listed
