@@ -5,7 +5,7 @@ use mathlib.Core.List.{List, [], _∷_, _++_, map}
 use Prim.Native.Nat.{ℕ, zero, suc, _+_, _-_, _≤_, _<_}
 use native.Mathlib.Omega.{arith}
 use lib.Dec.{eqb}
-use lib.ListN.{length, take, drop, set, replicate}
+use lib.ListN.{length, take, set, replicate}
 use Rattle.std.specs.Options.{mapped, whenTrue}
 use Rattle.std.specs.declared.option.Option.{Option}
 use Rattle.std.specs.declared.option.Option.the-variants.{Some, None}
@@ -13,7 +13,7 @@ use Rattle.std.specs.shelf.Text.{sameBytes}
 use Rattle.std.proofs.shelf.Lists.{append-assoc, append-nil, length-append, length-map, length-take-le, map-append, map-set, take-map, take-more-set}
 use Rattle.std.proofs.shelf.Tests.{cond-true, cond-false}
 use Rattle.rules.specs.Orders.{Bytes}
-use Rattle.rules.specs.Names.{ModuleVersion, at}
+use Rattle.rules.specs.Names.{ModuleVersion}
 use Rattle.rules.specs.Slices.{blank, filled}
 use Rattle.fields.specs.Pairs.{Pair, pairs-in, Pair-cut, pair-of}
 use Rattle.fields.proofs.Pieces.{pairs-some, pairs-none, pair-size}
