@@ -18,7 +18,7 @@ use Rattle.rules.specs.Causes.{Fault}
 use Rattle.rules.specs.Names.{ModuleVersion, is-module-version, at, _∈_}
 use Rattle.rules.specs.Rows.{own, Ascending-versions}
 use Rattle.rules.specs.Tables.{keep}
-use Rattle.rules.specs.Sources.{Answer, found, fault, Meaning, Lawful, missing-here, over-64, at-most-64}
+use Rattle.rules.specs.Sources.{Answer, found, fault, Lawful, missing-here, over-64, at-most-64}
 use Rattle.rules.proofs.Members.{all-from-members}
 use Rattle.rules.proofs.Order.{versions}
 use Rattle.rules.proofs.Tables.{entered-all-ascending, entered-all-told}

@@ -1,7 +1,6 @@
 -- Opening, one piece after the other. Assumes nothing.
-use mathlib.Core.Path.{_≡_, refl, sym, ap, _∙_}
+use mathlib.Core.Path.{_≡_, sym, ap, _∙_}
 use mathlib.Core.Bool.{Bool, cond, true, false}
-use mathlib.Core.List.{List, [], _∷_}
 use Prim.Native.Nat.{ℕ, _+_, _-_, _≤_, _<_}
 use native.Mathlib.Omega.{arith}
 use lib.ListN.{length}
@@ -12,7 +11,7 @@ use Rattle.std.proofs.shelf.Lists.{nil-from-length}
 use Rattle.std.proofs.shelf.Tests.{cond-true, cond-false, le-leb, lt-leb}
 use Rattle.rules.specs.Orders.{Bytes}
 use Rattle.rules.specs.Causes.{Cause, too-long, damaged-buffer}
-use Rattle.fields.specs.Fields.{Cut, field-of, whole, torn, pieces}
+use Rattle.fields.specs.Fields.{Cut, field-of, pieces}
 use Rattle.fields.specs.Openings.{Opening, refused-at, opened-on, opened-from, opened}
 use Rattle.fields.proofs.Pieces.{field-size, pieces-whole, pieces-torn, pieces-none}
 

@@ -13,7 +13,7 @@ use Rattle.std.proofs.shelf.Lists.{length-take-le, length-drop}
 use Rattle.std.proofs.shelf.Tests.{cond-true, cond-false, cases-bool, leb-true}
 use Rattle.rules.specs.Orders.{Bytes}
 use Rattle.fields.specs.Fields.{Cut, field-of, Piece, whole, torn, cut-on, cuts, pieces}
-use Rattle.fields.specs.Pairs.{Pair, pairs, pairs-in, Pair-cut, with-second, with-first, pair-of}
+use Rattle.fields.specs.Pairs.{pairs, pairs-in, Pair-cut, with-second, with-first, pair-of}
 
 -- a field takes three bytes more than its own
 pub field-size : (bs : Bytes) (f : Cut) → Some f ≡ field-of bs → length bs ≡ 3 + length (f .body) + length (f .after)

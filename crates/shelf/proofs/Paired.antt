@@ -4,16 +4,19 @@ use mathlib.Core.Bool.{Bool, true, false, cond, _&&_}
 use mathlib.Core.List.{List, [], _∷_, _++_, map}
 use Prim.Native.Nat.{ℕ, zero, suc, _+_, _-_, _≤_, _<_}
 use native.Mathlib.Omega.{arith}
-use lib.Dec.{eqb}
-use lib.ListN.{length, take, drop, set, replicate}
+use lib.Dec.{eqb, leb}
+use lib.ListN.{length, take, set, replicate}
 use Rattle.std.specs.Options.{mapped, whenTrue}
 use Rattle.std.specs.declared.option.Option.{Option}
 use Rattle.std.specs.declared.option.Option.the-variants.{Some, None}
 use Rattle.std.specs.shelf.Text.{sameBytes}
 use Rattle.std.proofs.shelf.Lists.{append-assoc, append-nil, length-append, length-map, length-take-le, map-append, map-set, take-map, take-more-set}
-use Rattle.std.proofs.shelf.Tests.{cond-true, cond-false}
+use Rattle.std.proofs.shelf.Tests.{cond-true, cond-false, leb-true, le-leb, and-parts, and-from, true≢false}
 use Rattle.rules.specs.Orders.{Bytes}
-use Rattle.rules.specs.Names.{ModuleVersion, at}
+use Rattle.rules.specs.Texts.{slash, every, pieces as cut-at}
+use Rattle.rules.specs.Paths.{is-element, is-path}
+use Rattle.rules.specs.Versions.{is-release, is-version}
+use Rattle.rules.specs.Names.{ModuleVersion, is-module-version, at}
 use Rattle.rules.specs.Slices.{blank, filled}
 use Rattle.fields.specs.Pairs.{Pair, pairs-in, Pair-cut, pair-of}
 use Rattle.fields.proofs.Pieces.{pairs-some, pairs-none, pair-size}
@@ -140,3 +143,22 @@ record-found (Some r) rs e = let s : rs ≡ r .rows = cc in ap found (sym s)
 pub record-missing : (o : Option Record) → None ≡ mapped record-rows o → answered record-answer o ≡ fault missing-here
 record-missing None e = refl
 record-missing (Some r) e = let z : _≡_ {A = ℕ} 0 1 = cc in absurd (omega arith)
+
+-- ---- a row of names that are well formed
+
+pub names-short : (p v : Bytes) → is-module-version (at p v) ≡ true → (leb (length p) 48 && leb (length v) 48) ≡ true
+names-short p v e = let (path, version) = and-parts (is-path p) (is-version v) e in and-from _ _ (and-parts (leb (length p) 48) (every is-element (cut-at slash p)) path .0) (by-version v version)
+  where
+    by-version : (w : Bytes) → is-version w ≡ true → leb (length w) 48 ≡ true
+    by-version [] h = refl
+    by-version (b ∷ bs) h =
+        let (first, others) = and-parts (eqb b 118) (leb (length (b ∷ bs)) 40 && is-release bs) h in
+        le-leb _ _ (omega (arith, leb-true (length (b ∷ bs)) 40 (and-parts (leb (length (b ∷ bs)) 40) (is-release bs) others .0)))
+
+pub row-is-some : {A : Type 0} (b : Bool) (x y : A) → Some x ≡ whenTrue b y → x ≡ y
+row-is-some true x y e = cc
+row-is-some false x y e = let z : _≡_ {A = ℕ} 0 1 = cc in absurd (omega arith)
+
+pub row-is-none : {A : Type 0} (b : Bool) (y : A) → None ≡ whenTrue b y → b ≡ true → ⊥
+row-is-none true y e h = let z : _≡_ {A = ℕ} 0 1 = cc in omega arith
+row-is-none false y e h = true≢false (sym h)

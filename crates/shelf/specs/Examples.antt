@@ -4,10 +4,10 @@ use mathlib.Core.Path.{_≡_}
 use mathlib.Core.List.{List, [], _∷_, _++_, map}
 use Prim.Native.Nat.{ℕ, zero, suc}
 use lib.Chars.{codes}
-use lib.ListN.{length, take}
+use lib.ListN.{take}
 use Rattle.std.specs.declared.result.Result.the-variants.{Ok}
 use Rattle.rules.specs.Orders.{Bytes}
-use Rattle.rules.specs.Causes.{too-long, bad-path, bad-version, row-too-many, damaged-buffer}
+use Rattle.rules.specs.Causes.{bad-path, bad-version, row-too-many, damaged-buffer}
 use Rattle.rules.specs.Names.{ModuleVersion, at}
 use Rattle.rules.specs.Sources.{Answer, found, fault, missing-here}
 use Rattle.fields.specs.Openings.{Opening, refused-at}

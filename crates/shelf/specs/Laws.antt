@@ -1,10 +1,10 @@
 -- What holds of a buffer that is accepted as a shelf: its records are well formed, each has at most 64 rows, and so what it means is lawful.
 -- Assumes nothing.
 use mathlib.Core.Path.{_≡_, refl, sym, ap, subst, _∙_}
-use mathlib.Core.Bool.{Bool, true, false, cond, _&&_}
+use mathlib.Core.Bool.{Bool, true, false, cond}
 use mathlib.Core.List.{List, [], _∷_}
 use mathlib.Core.Logic.{_⊎_, inl, inr, ⊎-elim}
-use Prim.Native.Nat.{ℕ, suc, _+_, _-_, _≤_, _<_}
+use Prim.Native.Nat.{ℕ, _+_, _-_, _≤_, _<_}
 use native.Mathlib.Omega.{arith}
 use lib.Dec.{eqb, leb}
 use lib.ListN.{length}
@@ -16,21 +16,21 @@ use Rattle.std.specs.declared.result.Result.the-variants.{Ok, Err}
 use Rattle.std.specs.shelf.Lists.{All}
 use Rattle.std.specs.shelf.Text.{sameBytes}
 use Rattle.std.proofs.shelf.Equals.{sameBytes-decides}
-use Rattle.std.proofs.shelf.Tests.{cond-true, cond-false, cases-bool, eqb-true, eqb-false, eq-eqb, ne-eqb, and-parts, and-from}
+use Rattle.std.proofs.shelf.Tests.{eqb-true, eqb-false, eq-eqb, ne-eqb, and-parts, and-from}
 use Rattle.rules.specs.Orders.{Bytes}
 use Rattle.rules.specs.Paths.{is-path}
 use Rattle.rules.specs.Versions.{is-version}
 use Rattle.rules.specs.Causes.{Cause, too-long, bad-path, bad-version, row-too-many, damaged-buffer}
-use Rattle.rules.specs.Names.{ModuleVersion, is-module-version, at, _∈_}
-use Rattle.rules.specs.Sources.{Lawful, found}
+use Rattle.rules.specs.Names.{ModuleVersion, is-module-version, _∈_}
+use Rattle.rules.specs.Sources.{Lawful}
 use Rattle.fields.specs.Fields.{Piece, whole, torn, pieces}
 use Rattle.fields.specs.Pairs.{Pair, pairs, pairs-in}
 use Rattle.fields.specs.Openings.{Opening, refused-at, opened-on, opened-from, opened}
-use Rattle.bottoms.specs.Lawful.{Lawful-items, lawful}
+use Rattle.bottoms.specs.Lawful.{lawful}
 use Rattle.shelf.specs.declared.order.Expected.{Expected}
 use Rattle.shelf.specs.declared.order.Expected.the-variants.{Module, Version, Row, RowVersion}
 use Rattle.shelf.specs.Grammar.{tag-M, tag-R, path-then, version-then, row-then, follow, may-end, opening, is-shelf}
-use Rattle.shelf.specs.Records.{Record, named, rows-at, records, are-names, is-record-of, record-answer, record-version, shelf-meaning}
+use Rattle.shelf.specs.Records.{Record, named, rows-at, records, is-record-of, record-answer, record-version, shelf-meaning}
 
 -- what may come next is there
 abbrev Fine : Expected → ℕ → List Piece → Type 0

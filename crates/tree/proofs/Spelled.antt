@@ -184,23 +184,6 @@ pub letter-size : (bs : Bytes) (l : Letter-cut) → Some l ≡ letter-of bs → 
 letter-size [] l e = let z : _≡_ {A = ℕ} 0 1 = cc in absurd (omega arith)
 letter-size (b ∷ bs) l e = letter-was b bs l e .1
 
-pub no-letter : (bs : Bytes) → 0 < length bs → None ≡ letter-of bs → unescaped bs ≡ None
-no-letter [] h e = absurd (omega arith)
-no-letter (b ∷ []) h e = go (eqb b mark) (is-upper b) e
-  where
-    go : (x y : Bool) → None ≡ cond x None (cond y None (Some (letter b []))) → cond x None (cond y None (Some (b ∷ []))) ≡ None
-    go true y f = refl
-    go false true f = refl
-    go false false f = let o : _≡_ {A = ℕ} 0 1 = cc in absurd (omega arith)
-no-letter (b ∷ c ∷ bs) h e = go (eqb b mark) (is-upper b) (is-lower c) e
-  where
-    go : (x y z : Bool) → None ≡ cond x (cond z (Some (letter (c - 32) bs)) None) (cond y None (Some (letter b (c ∷ bs))))
-        → cond x (cond z (mapped (λ t. (c - 32) ∷ t) (unescaped bs)) None) (cond y None (mapped (λ t. b ∷ t) (unescaped (c ∷ bs)))) ≡ None
-    go true y true f = let o : _≡_ {A = ℕ} 0 1 = cc in absurd (omega arith)
-    go true y false f = refl
-    go false true z f = refl
-    go false false z f = let o : _≡_ {A = ℕ} 0 1 = cc in absurd (omega arith)
-
 -- ---- a version read letter by letter
 
 mapped-id : (o : Option Bytes) → o ≡ mapped (λ t. t) o
@@ -233,9 +216,6 @@ module _ (bs out rest : Bytes) (n : ℕ) (so-far : unescaped bs ≡ mapped (λ t
         go : (o : Option Bytes) → bound formed-version (mapped (λ t. take n out ++ t) (mapped (λ t. l .byte ∷ t) o)) ≡ None
         go None = refl
         go (Some t) = long (take n out ++ (l .byte ∷ t)) (omega (arith, length-append (take n out) (l .byte ∷ t), h)) (is-version (take n out ++ (l .byte ∷ t))) refl
-
-  pub bad-rest : 0 < length rest → None ≡ letter-of rest → None ≡ version-written bs
-  bad-rest h e = sym (ap (bound formed-version) (so-far ∙ ap (mapped (λ t. take n out ++ t)) (no-letter rest h e)))
 
   pub all-read : rest ≡ [] → version-written bs ≡ whenTrue (is-version (take n out)) (take n out)
   all-read e = ap (bound formed-version) (so-far ∙ ap (λ t. mapped (λ t. take n out ++ t) (unescaped t)) e ∙ ap Some (append-nil (take n out)))
@@ -298,7 +278,7 @@ held-was ending p name v e =
     let (w, e4, f4) = bound-was formed-version (unescaped text) v f1 in
     behind-was (escaped p) name more e3
     ∙ ap (λ x. escaped p ++ x) (behind-was between more rest f3
-        ∙ ap (λ x. between ++ x) (before-was ending rest text f2 ∙ ap (λ x. x ++ ending) (unescaped-was text w e4 ∙ ap escaped (test-was w v (is-version w) f4))))
+    ∙ ap (λ x. between ++ x) (before-was ending rest text f2 ∙ ap (λ x. x ++ ending) (unescaped-was text w e4 ∙ ap escaped (test-was w v (is-version w) f4))))
 
 pub names-right : Names-right
 names-right ending p name v = (

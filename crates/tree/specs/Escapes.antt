@@ -1,6 +1,6 @@
 -- Texts without upper-case letters: each is written as an exclamation mark and the lower-case letter. Assumes nothing.
 use mathlib.Core.Bool.{Bool, cond, _&&_}
-use mathlib.Core.List.{List, [], _∷_, _++_}
+use mathlib.Core.List.{[], _∷_, _++_}
 use Prim.Native.Nat.{ℕ, _+_, _-_}
 use lib.Dec.{eqb, leb}
 use Rattle.std.specs.Options.{mapped}

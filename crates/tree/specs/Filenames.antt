@@ -2,7 +2,7 @@
 -- mark and the lower-case letter for each upper-case one. A name holds a version for a path if it is such a name, of a well-formed version.
 -- Assumes nothing.
 use mathlib.Core.Bool.{cond}
-use mathlib.Core.List.{List, [], _∷_, _++_}
+use mathlib.Core.List.{[], _∷_, _++_}
 use lib.Chars.{codes}
 use lib.Dec.{eqb}
 use Rattle.std.specs.Options.{mapped, whenTrue}

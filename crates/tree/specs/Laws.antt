@@ -1,9 +1,9 @@
 -- What a tree means is lawful: a manifest has few rows, all well formed, and the name of a module version holds its version. Assumes nothing.
 use mathlib.Core.Path.{_≡_, refl, sym, ap, subst, _∙_}
-use mathlib.Core.Bool.{Bool, true, false, cond, not, _&&_, _||_}
+use mathlib.Core.Bool.{Bool, true, false, cond, not, _&&_}
 use mathlib.Core.List.{List, [], _∷_, _++_}
-use mathlib.Core.Logic.{_⊎_, inl, inr, ⊎-elim}
-use Prim.Native.Nat.{ℕ, suc, _+_, _-_, _≤_, _<_}
+use mathlib.Core.Logic.{_⊎_, ⊎-elim}
+use Prim.Native.Nat.{ℕ, _+_, _-_, _≤_, _<_}
 use native.Mathlib.Omega.{arith}
 use lib.Dec.{eqb, leb, ltb}
 use lib.ListN.{length}
@@ -15,21 +15,21 @@ use Rattle.std.specs.declared.result.Result.the-variants.{Ok, Err}
 use Rattle.std.specs.shelf.Lists.{All}
 use Rattle.std.specs.shelf.Text.{sameBytes}
 use Rattle.std.proofs.shelf.Equals.{sameBytes-decides}
-use Rattle.std.proofs.shelf.Lists.{append-assoc, length-append}
-use Rattle.std.proofs.shelf.Tests.{cond-true, cond-false, eqb-true, eq-eqb, leb-true, le-leb, ltb-true, and-parts, and-from, or-cases, not-true, not-from-false, true≢false}
+use Rattle.std.proofs.shelf.Lists.{length-append}
+use Rattle.std.proofs.shelf.Tests.{cond-true, cond-false, eqb-true, eq-eqb, leb-true, le-leb, ltb-true, and-parts, and-from, or-cases, not-true, true≢false}
 use Rattle.rules.specs.Orders.{Bytes}
-use Rattle.rules.specs.Texts.{dot, dash, digit, letter, every, begun, pieces}
+use Rattle.rules.specs.Texts.{dot, dash, digit, every, begun, pieces}
 use Rattle.rules.specs.Paths.{is-path}
 use Rattle.rules.specs.Versions.{is-number, identifier-byte, is-word, is-identifier, before-dash, behind-dash, is-release, is-version}
-use Rattle.rules.specs.Names.{ModuleVersion, is-module-version, at, _∈_}
+use Rattle.rules.specs.Names.{ModuleVersion, is-module-version, at}
 use Rattle.rules.specs.Causes.{Cause, bad-path, bad-version, module-line, row-too-many, bad-byte, too-long, Fault}
 use Rattle.rules.specs.Lines.{lines, code, words}
 use Rattle.rules.specs.Manifests as M
 use Rattle.rules.specs.Sources.{Lawful, found, fault}
 use Rattle.rules.proofs.Precedence.{every-head, number-digits}
-use Rattle.fields.specs.Pairs.{Pair, pairs-in}
-use Rattle.bottoms.specs.Lawful.{Lawful-items, lawful}
-use Rattle.tree.specs.Escapes.{mark, is-upper, is-lower, written, escaped, unescaped}
+use Rattle.fields.specs.Pairs.{pairs-in}
+use Rattle.bottoms.specs.Lawful.{lawful}
+use Rattle.tree.specs.Escapes.{mark, is-upper, is-lower, escaped, unescaped}
 use Rattle.tree.specs.Filenames.{between, dot-mod, file-name, behind, before, bound, formed-version, version-written, version-held}
 use Rattle.tree.specs.Files.{is-file-of, reading-answer, body-answer, file-answer, file-version, tree-meaning}
 
@@ -136,9 +136,6 @@ answer-sound text rs e = go (M.reading 64 text) refl e
     go (M.unread c n) is f = let z : _≡_ {A = ℕ} 0 1 = cc in absurd (omega arith)
 
 -- ---- the bytes of a version
-
-plain : ℕ → Bool
-plain b = not (eqb b mark)
 
 abbrev All-plain : Bytes → Type 0
 All-plain bs = every (λ b. not (eqb b mark)) bs ≡ true

@@ -1,6 +1,5 @@
 // The names of files: a path, `/@v/`, a version and an ending.
 ghost use mathlib.Core.Path.{_≡_};
-ghost use mathlib.Core.List.{_++_};
 ghost use Rattle.std.specs.Options.{mapped};
 ghost use Rattle.std.specs.shelf.Text.{sameBytes};
 ghost use Rattle.versions.specs.Values.{plain-version-bytes};

@@ -1,4 +1,4 @@
--- proofs/field/first_field/Answers.antt
+-- The first field as it is cut off. Assumes nothing.
 use mathlib.Core.Path.{refl}
 use native.Mathlib.Omega.{arith}
 use borrow.Author.Needs.{needs}

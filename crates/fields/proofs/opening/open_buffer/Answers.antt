@@ -1,5 +1,5 @@
 -- One way for each answer: too long, cut, refused, one field more, and the end. Assumes nothing.
-use mathlib.Core.Path.{_≡_, sym, ap, _∙_}
+use mathlib.Core.Path.{sym, ap, _∙_}
 use native.Mathlib.Omega.{arith}
 use borrow.Author.Tests.{true-eqb, false-eqb}
 use Rattle.std.specs.declared.result.Result.the-variants.{Err}

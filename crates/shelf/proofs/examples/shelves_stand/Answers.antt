@@ -5,7 +5,6 @@ use Rattle.rules.specs.Versions.{parted, version-order}
 use Rattle.fields.specs.Fields.{cuts, pieces}
 use Rattle.fields.specs.Pairs.{pairs-in}
 use Rattle.fields.specs.Openings.{opened}
-use Rattle.shelf.specs.Examples.{Shelves}
 use Rattle.shelf.specs.Grammar.{opening}
 use Rattle.shelf.proofs.examples.shelves_stand.Needs as need
 

@@ -1,6 +1,5 @@
 -- A lower-case letter, or another byte. Assumes nothing.
-use mathlib.Core.Path.{_≡_, refl, sym, ap, _∙_}
-use native.Mathlib.Omega.{arith}
+use mathlib.Core.Path.{refl, sym, _∙_}
 use borrow.Author.Needs.{needs}
 use Rattle.std.proofs.shelf.Tests.{cond-true, cond-false}
 use Rattle.tree.proofs.Spelled.{marked-is}

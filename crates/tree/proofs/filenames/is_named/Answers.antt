@@ -1,5 +1,5 @@
 -- A name that is none of the path, or of another version, or the whole name. Assumes nothing.
-use mathlib.Core.Path.{_≡_, refl, sym, ap, _∙_}
+use mathlib.Core.Path.{sym, ap, _∙_}
 use Rattle.modules.specs.Rows.{names-of}
 use Rattle.tree.specs.Escapes.{escaped}
 use Rattle.tree.specs.Filenames.{between, behind, bound}

@@ -1,5 +1,5 @@
 -- One file more: its version is entered, or there is no room; and the end. Assumes nothing.
-use mathlib.Core.Path.{_≡_, ap, _∙_}
+use mathlib.Core.Path.{ap, _∙_}
 use native.Mathlib.Omega.{arith}
 use Rattle.std.specs.Options.{mapped}
 use Rattle.rules.specs.Rows.{own}

@@ -1,5 +1,5 @@
 -- One way for each answer. The rows of a record are few and well formed, since a shelf is lawful. Assumes nothing.
-use mathlib.Core.Path.{_≡_, refl, sym, ap, _∙_}
+use mathlib.Core.Path.{refl}
 use native.Mathlib.Omega.{arith}
 use lib.ListN.{length}
 use Rattle.rules.specs.Sources.{missing-here}
