@@ -92,7 +92,7 @@ counted rows n zs h e = sym (length-take-le n rows h) ∙ sym (length-map (take 
 
 -- one row more of a sheet
 module _ (main : Bytes) where
-  abbrev pub tabled : List ModuleVersion → List ModuleVersion
+  abbrev tabled : List ModuleVersion → List ModuleVersion
   tabled xs = table (off-main main xs)
 
   off-push : (xs : List ModuleVersion) (x : ModuleVersion) → tabled (xs ++ x ∷ []) ≡ entered-off main x (tabled xs)

@@ -157,7 +157,3 @@ module _ (w : View) (start : List ModuleVersion) where
           ap (λ p. record { sheet = filled blank-place (n .sheet) p; list = filled blank (n .list) [] }) (t .items)
           ∙ ap (λ l. holding n (whole .sheet) l) (not-done s (whole .end) 0 0 (list-of (bare (w .main)) (whole .sheet)) (t .refused) .1)
           ∙ ap (λ (g : Listed). g .slices) (sym given)
-
-  -- one of the slices is too short
-  pub given-short : (n : Lent) → long-enough n ≡ false → lists-from w start n ≡ record { reply = refused (refusal-for slice-too-short); slices = holding n [] [] }
-  given-short n short = ap (λ b. cond b (listed w n whole) (record { reply = refused (refusal-for slice-too-short); slices = holding n [] [] })) short

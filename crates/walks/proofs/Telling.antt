@@ -29,7 +29,7 @@ pub tells-by : (w v : Walked) (r : Result ℕ Stop) (after : List Place) → w �
 tells-by w v r after e t = subst (λ u. Tells u r after) (sym e) t
 
 -- a sheet with what comes next
-abbrev pub Next : Type 0
+abbrev Next : Type 0
 Next = List R.Place → Walked
 
 pub with-room : (next : Next) (t : List R.Place) → length t ≤ 256 → if-room next t ≡ next t

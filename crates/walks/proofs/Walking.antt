@@ -72,7 +72,7 @@ module _ (w : View) (i : ℕ) (sheet : List R.Place) (in-sheet : i < length shee
             subst (All (λ y. is-module-version y ≡ true)) k (all-kept-by (λ y. not (same-path y (w .main))) (λ y. is-module-version y ≡ true) zs (law .rows-formed (there .row) zs p))
 
     -- what holds after a turn that goes on
-    abbrev pub Goes-on : ℕ → List R.Place → Type 0
+    abbrev Goes-on : ℕ → List R.Place → Type 0
     Goes-on n next = (n ≤ 256) × (length sheet ≤ n) × Formed next × (walk (remaining w) (256 - (i + 1)) (i + 1) next ≡ walk (remaining w) (256 - i) i sheet)
 
     module _ (room : i < 256) (after : List Place) where
