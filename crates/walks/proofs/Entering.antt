@@ -1,5 +1,5 @@
 -- Rows entered into a table that stands in the first places of a slice. Assumes nothing.
-use mathlib.Core.Path.{_≡_, refl, sym, ap, subst, _∙_}
+use mathlib.Core.Path.{_≡_, refl, sym, ap, _∙_}
 use mathlib.Core.Bool.{Bool, true, false, cond, not}
 use mathlib.Core.List.{List, [], _∷_, _++_, map}
 use Prim.Native.Nat.{ℕ, _+_, _≤_, _<_}
@@ -13,14 +13,14 @@ use Rattle.std.specs.declared.cmp.Ordering.{Ordering}
 use Rattle.std.specs.declared.cmp.Ordering.the-variants.{Less, Equal, Greater}
 use Rattle.std.specs.declared.result.Result.{Result}
 use Rattle.std.specs.declared.result.Result.the-variants.{Ok, Err}
-use Rattle.std.proofs.shelf.Lists.{append-nil, getD-take, getD-default, set-getD, length-map, length-take-le, length-append, map-more, map-append, take-all}
+use Rattle.std.proofs.shelf.Lists.{append-nil, getD-take, getD-default, set-getD, length-map, length-take-le, map-more, map-append, take-all}
 use Rattle.std.proofs.shelf.Elements.{kept-by-append}
 use Rattle.std.proofs.shelf.Results.{cases-at-ok, cases-at-err}
 use Rattle.rules.specs.Orders.{Bytes}
 use Rattle.rules.specs.Paths.{path-order}
 use Rattle.rules.specs.Versions.{version-order}
 use Rattle.rules.specs.Names.{ModuleVersion, same-path}
-use Rattle.rules.specs.Tables.{entered-by, entered, entered-all}
+use Rattle.rules.specs.Tables.{entered-by, entered}
 use Rattle.rules.specs.Rows.{path-of, higher, with-row, table}
 use Rattle.rules.specs.Projects.{off-main}
 use Rattle.rules.specs.Walks.{module-versions}
@@ -92,7 +92,7 @@ counted rows n zs h e = sym (length-take-le n rows h) ∙ sym (length-map (take 
 
 -- one row more of a sheet
 module _ (main : Bytes) where
-  abbrev pub tabled : List ModuleVersion → List ModuleVersion
+  abbrev tabled : List ModuleVersion → List ModuleVersion
   tabled xs = table (off-main main xs)
 
   off-push : (xs : List ModuleVersion) (x : ModuleVersion) → tabled (xs ++ x ∷ []) ≡ entered-off main x (tabled xs)

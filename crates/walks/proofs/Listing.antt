@@ -1,26 +1,24 @@
 -- What a list replies and leaves, by how its walk ended; and that it is the list of the rules. Assumes nothing.
 use mathlib.Core.Path.{_≡_, refl, sym, ap, subst, _∙_}
-use mathlib.Core.Bool.{Bool, true, false, cond, not, true≢false}
+use mathlib.Core.Bool.{Bool, true, false, cond, not}
 use mathlib.Core.List.{List, [], _∷_, _++_, map}
 use mathlib.Core.Logic.{inl, inr}
-use Prim.Native.Nat.{ℕ, zero, suc, _+_, _-_, _≤_, _<_}
+use Prim.Native.Nat.{ℕ, zero, suc, _-_, _≤_}
 use native.Mathlib.Omega.{arith}
 use lib.ListN.{length, take, replicate}
 use Rattle.std.specs.declared.option.Option.the-variants.{Some, None}
-use Rattle.std.specs.declared.result.Result.{Result}
 use Rattle.std.specs.declared.result.Result.the-variants.{Ok, Err}
 use Rattle.std.proofs.shelf.Lists.{map-append, length-map, length-take, length-take-le, take-all}
 use Rattle.rules.specs.Paths.{path-order}
 use Rattle.rules.specs.Names.{ModuleVersion, same-path, _∈_, Distinct}
-use Rattle.rules.specs.Sources.{Meaning, included}
+use Rattle.rules.specs.Sources.{Meaning}
 use Rattle.rules.specs.Projects.{State, View, view, main-row, off-main, remaining}
-use Rattle.rules.specs.Walks as R
 use Rattle.rules.specs.Walks.{module-versions, End, done, stopped, no-room, Walked, list-walk, first-sheet}
 use Rattle.rules.specs.Rows.{path-of, table}
 use Rattle.rules.specs.Lists.{list-of}
 use Rattle.rules.specs.Slices.{blank, blank-place, Lent, Slices, filled, holding, long-enough}
 use Rattle.rules.specs.Causes.{slice-too-short}
-use Rattle.rules.specs.Calls.{Reply, Outcome, counted, refused, refusal-for, replied, if-done, if-long-enough, lists}
+use Rattle.rules.specs.Calls.{Outcome, counted, refused, refusal-for, replied, if-done, lists}
 use Rattle.rules.proofs.Order.{paths}
 use Rattle.rules.proofs.Members.{kept-was, distinct-length}
 use Rattle.rules.proofs.Tables.{ascending-distinct}
@@ -32,13 +30,13 @@ use Rattle.causes.specs.Told.{refusal-of}
 use Rattle.walks.specs.declared.place.Place.{Place}
 use Rattle.walks.specs.declared.stop.Stop.{Stop}
 use Rattle.walks.specs.Places.{place-of}
-use Rattle.walks.specs.Stops.{Tells, refused-by, refusal-in}
+use Rattle.walks.specs.Stops.{Tells, refused-by}
 use Rattle.walks.specs.Views.{bare, walk-from}
-use Rattle.walks.specs.Listed.{Listed, listed, lists-from}
+use Rattle.walks.specs.Listed.{Listed, listed, lists-from, Walk-right, List-right}
 
--- THE WALK AND THE LIST are those of the rules, where what is seen is the exclude layer of a state, and the start its rows but the exclusions
+-- the walk and the list of the rules
 
-pub walk-right : (m : Meaning) (s : State) → walk-from (view m s) (included (s .exclusions) (s .rows)) ≡ list-walk m s
+pub walk-right : Walk-right
 unfolding walk-from list-walk
 walk-right m s = refl
 
@@ -53,8 +51,7 @@ list-cond : (m : Meaning) (s : State) (n : Lent) (b : Bool)
 list-cond m s n true = refl
 list-cond m s n false = refl
 
-pub list-right : (m : Meaning) (s : State) (n : Lent)
-    → _≡_ {A = Listed} (lists-from (view m s) (included (s .exclusions) (s .rows)) n) (record { reply = if-long-enough n s (lists m s n) .reply; slices = if-long-enough n s (lists m s n) .slices })
+pub list-right : List-right
 list-right m s n =
     ap (λ v. cond (long-enough n) (listed (view m s) n v) (record { reply = refused (refusal-for slice-too-short); slices = holding n [] [] })) (walk-right m s)
     ∙ list-cond m s n (long-enough n)
@@ -160,7 +157,3 @@ module _ (w : View) (start : List ModuleVersion) where
           ap (λ p. record { sheet = filled blank-place (n .sheet) p; list = filled blank (n .list) [] }) (t .items)
           ∙ ap (λ l. holding n (whole .sheet) l) (not-done s (whole .end) 0 0 (list-of (bare (w .main)) (whole .sheet)) (t .refused) .1)
           ∙ ap (λ (g : Listed). g .slices) (sym given)
-
-  -- one of the slices is too short
-  pub given-short : (n : Lent) → long-enough n ≡ false → lists-from w start n ≡ record { reply = refused (refusal-for slice-too-short); slices = holding n [] [] }
-  given-short n short = ap (λ b. cond b (listed w n whole) (record { reply = refused (refusal-for slice-too-short); slices = holding n [] [] })) short

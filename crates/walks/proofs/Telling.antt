@@ -16,17 +16,20 @@ use Rattle.rules.specs.Walks as R
 use Rattle.rules.specs.Walks.{Walked, ended, if-room, done, no-room}
 use Rattle.rules.specs.Calls.{refusal-for}
 use Rattle.causes.specs.Told.{refusal-of}
-use Rattle.causes.specs.declared.refusal.Refusal.{Refusal}
 use Rattle.walks.specs.declared.place.Place.{Place}
 use Rattle.walks.specs.declared.stop.Stop.{Stop}
 use Rattle.walks.specs.Places.{place-of}
 use Rattle.walks.specs.Stops.{Tells}
 
+-- as many places as are taken
+pub front-long : (ps : List Place) (n : ℕ) → n ≤ length ps → length (map place-of (take n ps)) ≡ n
+front-long ps n h = length-map (take n ps) place-of ∙ length-take-le n ps h
+
 pub tells-by : (w v : Walked) (r : Result ℕ Stop) (after : List Place) → w ≡ v → Tells v r after → Tells w r after
 tells-by w v r after e t = subst (λ u. Tells u r after) (sym e) t
 
 -- a sheet with what comes next
-abbrev pub Next : Type 0
+abbrev Next : Type 0
 Next = List R.Place → Walked
 
 pub with-room : (next : Next) (t : List R.Place) → length t ≤ 256 → if-room next t ≡ next t
@@ -40,7 +43,7 @@ module _ (t : List R.Place) (after : List Place) where
   pub tells-done : (n : ℕ) → length t ≤ 256 → n ≤ length after → map place-of (take n after) ≡ t → Tells (ended done t) (Ok n) after
   tells-done n h fits e = record {
     refused = refl;
-    places = sym (length-take-le n after fits) ∙ sym (length-map (take n after) place-of) ∙ ap length (e ∙ sym (take-all 256 t h));
+    places = sym (front-long after n fits) ∙ ap length (e ∙ sym (take-all 256 t h));
     items = e ∙ sym (take-all 256 t h);
   }
 

@@ -1,7 +1,7 @@
 -- The turns of a walk, as the code takes them. Assumes nothing.
 use mathlib.Core.Path.{_≡_, refl, sym, ap, subst, _∙_}
 use mathlib.Core.Bool.{true, not}
-use mathlib.Core.List.{List, [], _∷_, _++_, map}
+use mathlib.Core.List.{List, map}
 use mathlib.Core.Logic.{⊎-elim}
 use Prim.Native.Nat.{ℕ, suc, _+_, _-_, _≤_, _<_}
 use native.Mathlib.Omega.{arith}
@@ -9,15 +9,13 @@ use lib.ListN.{length, getD, take}
 use Rattle.std.specs.Finite.{nth}
 use Rattle.std.specs.shelf.Lists.{All}
 use Rattle.std.specs.declared.option.Option.the-variants.{Some}
-use Rattle.std.specs.declared.result.Result.{Result}
 use Rattle.std.specs.declared.result.Result.the-variants.{Ok, Err}
-use Rattle.std.proofs.shelf.Lists.{getD-map, getD-take, length-take-le, length-map, length-append, take-all}
+use Rattle.std.proofs.shelf.Lists.{getD-map, getD-take, length-take-le, take-all}
 use Rattle.std.proofs.shelf.Maps.{nth-getD}
 use Rattle.std.proofs.shelf.Elements.{all-kept-by}
-use Rattle.rules.specs.Orders.{Bytes}
 use Rattle.rules.specs.Names.{ModuleVersion, is-module-version, same-path}
 use Rattle.rules.specs.Causes.{Fault}
-use Rattle.rules.specs.Sources.{Answer, found, fault, Meaning, Lawful, narrowed}
+use Rattle.rules.specs.Sources.{Answer, found, fault, Lawful, narrowed}
 use Rattle.rules.specs.Slices.{blank-place}
 use Rattle.rules.specs.Projects.{View, off-main, remaining}
 use Rattle.rules.specs.Calls.{refusal-at}
@@ -27,14 +25,12 @@ use Rattle.rules.proofs.Walks.{placed, written-keeps, nth-pushed}
 use Rattle.rules.proofs.Members.{all-member}
 use Rattle.rules.proofs.Turns.{written-longer, walk-done, walk-stops, walk-fills, walk-goes}
 use Rattle.causes.specs.Told.{refusal-of}
-use Rattle.modules.specs.Rows.{row-names}
-use Rattle.modules.specs.declared.rows.Row.{Row}
 use Rattle.walks.specs.declared.place.Place.{Place}
 use Rattle.walks.specs.declared.stop.Stop.{Stop}
 use Rattle.walks.specs.Places.{place-of}
 use Rattle.walks.specs.Stops.{Tells}
-use Rattle.walks.specs.Views.{seen-by, Formed, asked-at}
-use Rattle.walks.proofs.Telling.{ok-told, err-told, tells-by, tells-done}
+use Rattle.walks.specs.Views.{Formed, asked-at}
+use Rattle.walks.proofs.Telling.{front-long, ok-told, err-told, tells-by, tells-done}
 
 -- well formed rows keep a sheet well formed
 pub formed-written : (from : ℕ) (xs : List ModuleVersion) (sheet : List R.Place) → All (λ x. is-module-version x ≡ true) xs → Formed sheet → Formed (written from xs sheet)
@@ -76,7 +72,7 @@ module _ (w : View) (i : ℕ) (sheet : List R.Place) (in-sheet : i < length shee
             subst (All (λ y. is-module-version y ≡ true)) k (all-kept-by (λ y. not (same-path y (w .main))) (λ y. is-module-version y ≡ true) zs (law .rows-formed (there .row) zs p))
 
     -- what holds after a turn that goes on
-    abbrev pub Goes-on : ℕ → List R.Place → Type 0
+    abbrev Goes-on : ℕ → List R.Place → Type 0
     Goes-on n next = (n ≤ 256) × (length sheet ≤ n) × Formed next × (walk (remaining w) (256 - (i + 1)) (i + 1) next ≡ walk (remaining w) (256 - i) i sheet)
 
     module _ (room : i < 256) (after : List Place) where
@@ -115,7 +111,7 @@ module _ (w : View) (i : ℕ) (sheet : List R.Place) (in-sheet : i < length shee
 pub goes-out : (w : View) (i n : ℕ) (after : List Place) → n ≤ i → n ≤ 256 → n ≤ length after
     → Tells (walk (remaining w) (256 - i) i (map place-of (take n after))) (Ok n) after
 goes-out w i n after h l fits =
-    let long : length (map place-of (take n after)) ≡ n = length-map (take n after) place-of ∙ length-take-le n after fits in
+    let long : length (map place-of (take n after)) ≡ n = front-long after n fits in
     tells-by _ (ended done (map place-of (take n after))) (Ok n) after (walk-done (remaining w) (256 - i) i (map place-of (take n after)) (omega arith))
     (tells-done (map place-of (take n after)) after n (omega arith) fits refl)
 
@@ -123,7 +119,7 @@ goes-out w i n after h l fits =
 pub tells-fault : (i n : ℕ) (f : Fault) (s : Stop) (after : List Place) → n ≤ 256 → n ≤ length after → s .places ≡ n → refusal-of (s .refusal) ≡ refusal-at i f
     → Tells (ended (stopped i f) (map place-of (take n after))) (Err s) after
 tells-fault i n f s after l fits p q =
-    let long : length (map place-of (take n after)) ≡ n = length-map (take n after) place-of ∙ length-take-le n after fits in
+    let long : length (map place-of (take n after)) ≡ n = front-long after n fits in
     let all : take 256 (map place-of (take n after)) ≡ map place-of (take n after) = take-all 256 (map place-of (take n after)) (omega arith) in
     record {
       refused = ap Some q;

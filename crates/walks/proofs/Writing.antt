@@ -5,7 +5,6 @@ use mathlib.Core.List.{List, [], _∷_, _++_, map}
 use Prim.Native.Nat.{ℕ, _+_, _≤_, _<_}
 use native.Mathlib.Omega.{arith}
 use lib.ListN.{length, getD, take, drop, take-append-drop}
-use Rattle.std.specs.declared.result.Result.{Result}
 use Rattle.std.specs.declared.result.Result.the-variants.{Ok, Err}
 use Rattle.std.proofs.shelf.Lists.{at-drop-more, at-drop-all, map-more, map-append, take-all, take-append-le, length-append}
 use Rattle.std.proofs.shelf.Elements.{kept-by-append}
@@ -62,7 +61,7 @@ module _ {A : Type 0} (f : A → ModuleVersion) (main : Bytes) (from : ℕ) (row
   abbrev pub upto : ℕ → List R.Place
   upto i = written from (off-main main (map f (take i rows))) sheet
 
-  abbrev pub whole : List R.Place
+  abbrev whole : List R.Place
   whole = written from (off-main main (map f rows)) sheet
 
   parted : (xs ys : List ModuleVersion) → written from (off-main main (xs ++ ys)) sheet ≡ written from (off-main main ys) (written from (off-main main xs) sheet)
@@ -79,7 +78,7 @@ module _ {A : Type 0} (f : A → ModuleVersion) (main : Bytes) (from : ℕ) (row
       ∙ ap (λ ys. written from (off-main main ys) sheet) (map-append f (take i rows) (drop i rows))
       ∙ parted (map f (take i rows)) (map f (drop i rows))
 
-  pub upto-all : (i : ℕ) → length rows ≤ i → upto i ≡ whole
+  upto-all : (i : ℕ) → length rows ≤ i → upto i ≡ whole
   upto-all i h = ap (λ ys. written from (off-main main (map f ys)) sheet) (take-all i rows h)
 
   -- a turn: the places so far are `front`, and x is the next row

@@ -1,5 +1,6 @@
--- What a list replies and leaves in its two slices, for what a walk sees and from any rows; and the code's answer and slices, told as those of the
--- rules. Assumes nothing.
+-- What a list replies and leaves in its two slices, for what a walk sees and from any rows; the code's answer and slices, told as those of the
+-- rules; and that the walk and the list of a project are a case of these. Assumes nothing.
+use mathlib.Core.Path.{_≡_}
 use mathlib.Core.Bool.{cond}
 use mathlib.Core.List.{List, [], map}
 use lib.ListN.{length}
@@ -7,11 +8,12 @@ use Rattle.std.specs.declared.result.Result.{Result}
 use Rattle.std.specs.declared.result.Result.the-variants.{Ok, Err}
 use Rattle.rules.specs.Causes.{slice-too-short}
 use Rattle.rules.specs.Names.{ModuleVersion}
-use Rattle.rules.specs.Projects.{View}
-use Rattle.rules.specs.Walks.{Walked}
+use Rattle.rules.specs.Sources.{Meaning, included}
+use Rattle.rules.specs.Projects.{State, View, view}
+use Rattle.rules.specs.Walks.{Walked, list-walk}
 use Rattle.rules.specs.Lists.{list-of}
 use Rattle.rules.specs.Slices.{Lent, long-enough, Slices, holding}
-use Rattle.rules.specs.Calls.{Reply, counted, refused, refusal-for, replied, if-done}
+use Rattle.rules.specs.Calls.{Reply, counted, refused, refusal-for, replied, if-done, if-long-enough, lists}
 use Rattle.causes.specs.Told.{refusal-of}
 use Rattle.causes.specs.declared.refusal.Refusal.{Refusal}
 use Rattle.modules.specs.Rows.{row-names}
@@ -49,3 +51,12 @@ module _ (w : View) where
 
   abbrev pub lists-from : List ModuleVersion → Lent → Listed
   lists-from start n = cond (long-enough n) (listed n (walk-from w start)) (record { reply = refused (refusal-for slice-too-short); slices = holding n [] [] })
+
+-- THE WALK and THE LIST of a project are those that see the exclude layer of its state, and start from its rows but the exclusions.
+abbrev pub Walk-right : Type 0
+Walk-right = (m : Meaning) (s : State) → walk-from (view m s) (included (s .exclusions) (s .rows)) ≡ list-walk m s
+
+abbrev pub List-right : Type 0
+List-right = (m : Meaning) (s : State) (n : Lent)
+    → _≡_ {A = Listed} (lists-from (view m s) (included (s .exclusions) (s .rows)) n)
+    (record { reply = if-long-enough n s (lists m s n) .reply; slices = if-long-enough n s (lists m s n) .slices })

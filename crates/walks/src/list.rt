@@ -10,7 +10,7 @@ ghost use Rattle.names.specs.Paths.{path-bytes};
 ghost use Rattle.modules.specs.Rows.{row-names, names-of};
 ghost use Rattle.walks.specs.Places.{place-of};
 ghost use Rattle.walks.specs.Views.{seen-by};
-ghost use Rattle.walks.specs.Listed.{lent, reply-of, slices-of, lists-from};
+ghost use Rattle.walks.specs.Listed.{lent, reply-of, slices-of, lists-from, Walk-right, List-right};
 use crate::counts::Counts;
 use crate::place::Place;
 use crate::rows::list_rows;
@@ -67,4 +67,11 @@ pub fn list<S: Source>(
             Err(stop.refusal)
         }
     }
+}
+
+// A project's walk and list are these, over the exclude layer of its state and from its rows but the exclusions.
+pub fn walks_stand() -> u8
+    ensures { λ _. ⌜ Walk-right × List-right ⌝ }
+{
+    0
 }

@@ -80,7 +80,7 @@ fn question<S: Source>(
 }
 
 // Questions the places from 1 on.
-pub(crate) fn walk_on<S: Source>(
+fn walk_on<S: Source>(
     source: &mut S,
     main: &Path,
     sheet: &mut [Place],

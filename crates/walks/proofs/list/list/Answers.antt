@@ -1,3 +1,4 @@
+-- Every place was questioned, or the walk stopped. There is room for the list, since each of its rows is on the sheet. Assumes nothing.
 use mathlib.Core.Path.{_≡_, refl, sym, ap, subst, _∙_}
 use mathlib.Core.List.{List, [], map}
 use Prim.Native.Nat.{ℕ, _-_, _≤_}

@@ -1,3 +1,4 @@
+-- The row of the path is higher, or is not, or there is none. Assumes nothing.
 use mathlib.Core.Path.{_≡_, ap, _∙_}
 use mathlib.Core.List.{List, map}
 use Prim.Native.Nat.{ℕ, _+_, _-_, _<_, _≤_}
@@ -8,7 +9,6 @@ use Rattle.std.specs.declared.result.Result.the-variants.{Ok, Err}
 use Rattle.std.proofs.shelf.Lists.{length-take-le}
 use Rattle.ordered.specs.Places.{sought}
 use Rattle.names.specs.Paths.{plain-path-order}
-use Rattle.rules.specs.Names.{ModuleVersion}
 use Rattle.modules.specs.Rows.{row-names, row-path}
 use Rattle.modules.specs.declared.rows.Row.{Row}
 use Rattle.walks.proofs.Entering.{enter-lower, enter-higher, enter-new, counted}

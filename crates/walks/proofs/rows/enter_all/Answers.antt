@@ -1,11 +1,11 @@
-use mathlib.Core.Path.{_≡_, sym, ap, _∙_}
-use mathlib.Core.List.{map}
+-- There is room for one row more, since there is room for all. Assumes nothing.
+use mathlib.Core.Path.{ap, _∙_}
 use native.Mathlib.Omega.{arith}
-use lib.ListN.{length, take}
+use lib.ListN.{length}
 use Rattle.names.specs.Paths.{path-bytes}
 use Rattle.modules.specs.Rows.{row-names}
 use Rattle.walks.specs.Views.{entered-off}
-use Rattle.walks.proofs.Entering.{tabled-upto, tabled-fits, tabled-more, tabled-all}
+use Rattle.walks.proofs.Entering.{tabled-fits, tabled-more, tabled-all}
 use Rattle.walks.proofs.rows.enter_all.Needs as need
 
 pub enter-off-count-requires : need.enter-off-count-requires

@@ -1,3 +1,4 @@
+-- The rows that were gone through are entered. Assumes nothing.
 use mathlib.Core.Path.{_≡_}
 use mathlib.Core.List.{map}
 use lib.ListN.{length, take}

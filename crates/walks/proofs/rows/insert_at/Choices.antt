@@ -1,7 +1,7 @@
 -- The rows from i on stand one place up, and those below i where they stood. Assumes nothing.
 use mathlib.Core.Path.{_≡_}
 use Prim.Native.Nat.{ℕ, _+_, _≤_, _<_}
-use lib.ListN.{length, getD}
+use lib.ListN.{getD}
 use Rattle.modules.specs.declared.rows.Row.{Row}
 use Rattle.walks.proofs.rows.insert_at.Given as given
 

@@ -1,3 +1,4 @@
+-- What is left of the sheet says whether the row is on it. Assumes nothing.
 use mathlib.Core.Path.{_≡_}
 use mathlib.Core.List.{map}
 use Rattle.rules.specs.Names.{has}

@@ -1,10 +1,11 @@
+-- On the main path, on the sheet, no room for it, or written behind the others. Assumes nothing.
 use mathlib.Core.Path.{_≡_, refl, sym, ap, _∙_}
 use mathlib.Core.Bool.{Bool}
-use mathlib.Core.List.{List, [], _∷_, _++_, map}
+use mathlib.Core.List.{List, [], _∷_, map}
 use Prim.Native.Nat.{ℕ, _+_, _-_, _<_, _≤_}
 use native.Mathlib.Omega.{arith}
 use lib.ListN.{length, take, set, length-set}
-use Rattle.std.proofs.shelf.Lists.{length-take-le, length-map, length-append, take-more-set, take-at, map-push}
+use Rattle.std.proofs.shelf.Lists.{length-append, take-more-set, take-at, map-push}
 use Rattle.rules.specs.Names.{ModuleVersion, has}
 use Rattle.rules.specs.Walks.{module-versions}
 use Rattle.rules.proofs.Walks.{placed}
@@ -12,12 +13,9 @@ use Rattle.names.specs.Paths.{path-bytes}
 use Rattle.modules.specs.Rows.{row-names}
 use Rattle.walks.specs.declared.place.Place.{Place}
 use Rattle.walks.specs.Places.{place-of}
-use Rattle.walks.proofs.Telling.{tells-room, tells-full}
+use Rattle.walks.proofs.Telling.{front-long, tells-room, tells-full}
 use Rattle.walks.proofs.Writing.{one, one-main, one-there, one-new}
 use Rattle.walks.proofs.sheet.write_row.Needs as need
-
-front-long : (ps : List Place) (n : ℕ) → n ≤ length ps → length (map place-of (take n ps)) ≡ n
-front-long ps n h = length-map (take n ps) place-of ∙ length-take-le n ps h
 
 -- the places that were looked through
 seen : (ps : List Place) (n : ℕ) (x : ModuleVersion) (b : Bool) → b ≡ has (module-versions (map place-of (take (n - 0) ps))) x → has (module-versions (map place-of (take n ps))) x ≡ b

@@ -1,12 +1,12 @@
-use mathlib.Core.Path.{_∙_}
+-- One row more, a row for which there is no room, and the end. Assumes nothing.
 use mathlib.Core.List.{map}
 use Prim.Native.Nat.{_≤_}
 use native.Mathlib.Omega.{arith}
 use lib.ListN.{length, take}
-use Rattle.std.proofs.shelf.Lists.{length-take-le, length-map}
 use Rattle.names.specs.Paths.{path-bytes}
 use Rattle.modules.specs.Rows.{row-names}
 use Rattle.walks.specs.Places.{place-of}
+use Rattle.walks.proofs.Telling.{front-long}
 use Rattle.walks.proofs.Writing.{turn-ok, turn-err, turn-end}
 use Rattle.walks.proofs.sheet.write_rows.Needs as need
 
@@ -30,5 +30,5 @@ returns c =
     let n = c .loop-row .places in
     let ps = c .loop-row .sheet in
     let fits : n ≤ length ps = omega (arith, c .loop-row .kept .sheet) in
-    let short : length (map place-of (take n ps)) ≤ 256 = omega (arith, length-map (take n ps) place-of ∙ length-take-le n ps fits) in
+    let short : length (map place-of (take n ps)) ≤ 256 = omega (arith, front-long ps n fits) in
     record { value = turn-end row-names (path-bytes (c .args .main .now)) (c .args .from) (c .args .rows .now) s (c .loop-row .row-index) (c .loop-row-test .left) n ps (c .loop-row .inv .0) fits short (c .loop-row .inv .1) }

@@ -1,10 +1,10 @@
-use mathlib.Core.Path.{_≡_, ap, subst, _∙_}
+-- One row more, a row for which there is no room, and the end. Assumes nothing.
+use mathlib.Core.Path.{_≡_, subst}
 use mathlib.Core.List.{List, map}
 use Prim.Native.Nat.{ℕ, _≤_}
 use native.Mathlib.Omega.{arith}
 use lib.ListN.{length, take}
 use Rattle.std.specs.declared.result.Result.{Result}
-use Rattle.std.proofs.shelf.Lists.{length-take-le, length-map}
 use Rattle.rules.specs.Orders.{Bytes}
 use Rattle.rules.specs.Walks as R
 use Rattle.rules.specs.Walks.{if-room, ended, done}
@@ -16,6 +16,7 @@ use Rattle.walks.specs.declared.place.Place.{Place}
 use Rattle.walks.specs.declared.stop.Stop.{Stop}
 use Rattle.walks.specs.Places.{place-of}
 use Rattle.walks.specs.Stops.{Tells}
+use Rattle.walks.proofs.Telling.{front-long}
 use Rattle.walks.proofs.Writing.{one, turn-ok, turn-err, turn-end}
 use Rattle.walks.proofs.start.write_start.Needs as need
 
@@ -48,5 +49,5 @@ returns c =
     let n = c .loop-of .places in
     let ps = c .loop-of .sheet in
     let fits : n ≤ length ps = omega (arith, c .loop-of .kept .sheet) in
-    let short : length (map place-of (take n ps)) ≤ 256 = omega (arith, length-map (take n ps) place-of ∙ length-take-le n ps fits) in
+    let short : length (map place-of (take n ps)) ≤ 256 = omega (arith, front-long ps n fits) in
     record { value = turn-end names-of (path-bytes (c .args .main .now)) 0 (c .args .start .now) s (c .loop-of .of-index) (c .loop-of-test .left) n ps (c .loop-of .inv .0) fits short (c .loop-of .inv .1) }

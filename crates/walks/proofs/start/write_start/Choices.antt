@@ -1,3 +1,4 @@
+-- The rows that were gone through are written. Assumes nothing.
 use mathlib.Core.Path.{_≡_}
 use mathlib.Core.List.{map}
 use Prim.Native.Nat.{_≤_}

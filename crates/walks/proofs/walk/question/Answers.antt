@@ -1,10 +1,10 @@
-use mathlib.Core.Path.{_≡_, refl, sym, ap, subst, _∙_}
+-- The place is well formed; its question brings a list or a fault. Assumes nothing.
+use mathlib.Core.Path.{_≡_, sym, ap, subst, _∙_}
 use mathlib.Core.Bool.{true}
 use mathlib.Core.List.{List, map}
 use Prim.Native.Nat.{ℕ, _-_, _<_, _≤_}
 use native.Mathlib.Omega.{arith}
 use lib.ListN.{length, getD, take, replicate, length-replicate}
-use Rattle.std.proofs.shelf.Lists.{length-take-le, length-map}
 use Rattle.rules.specs.Names.{ModuleVersion, is-module-version}
 use Rattle.rules.specs.Sources.{found}
 use Rattle.rules.specs.Slices.{blank, blank-place}
@@ -15,8 +15,8 @@ use Rattle.source.specs.Answers.{fault-of}
 use Rattle.source.proofs.Telling.{found-told, found-fits, fault-told}
 use Rattle.walks.specs.declared.place.Place.{Place}
 use Rattle.walks.specs.Places.{place-of}
-use Rattle.walks.specs.Views.{seen-by, Formed}
-use Rattle.walks.proofs.Telling.{tells-by}
+use Rattle.walks.specs.Views.{seen-by}
+use Rattle.walks.proofs.Telling.{front-long, tells-by}
 use Rattle.walks.proofs.Walking.{read-at, reads, asked-found, asked-fault, tells-fault}
 use Rattle.walks.proofs.walk.question.Needs as need
 
@@ -25,7 +25,7 @@ row-at : (ps : List Place) (n i : ℕ) (p : Place) → i < n → n ≤ length ps
 row-at ps n i p l h = sym (ap (λ (q : R.Place). q .row) (read-at ps n i p l h))
 
 in-front : (ps : List Place) (n i : ℕ) → i < n → n ≤ length ps → i < length (map place-of (take n ps))
-in-front ps n i l h = omega (arith, length-map (take n ps) place-of, length-take-le n ps h)
+in-front ps n i l h = omega (arith, front-long ps n h)
 
 pub checked-of-requires : need.checked-of-requires
 checked-of-requires g c κs =

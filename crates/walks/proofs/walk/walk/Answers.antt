@@ -1,9 +1,9 @@
-use mathlib.Core.Path.{_≡_, refl}
-use mathlib.Core.List.{List, map}
-use Prim.Native.Nat.{ℕ, _<_, _≤_}
+-- The start is written and the walk goes on, or there is no room for it. Assumes nothing.
+use mathlib.Core.Path.{refl}
+use mathlib.Core.List.{map}
+use Prim.Native.Nat.{_<_, _≤_}
 use native.Mathlib.Omega.{arith}
 use lib.ListN.{length, take, set, length-set}
-use Rattle.rules.specs.Walks as R
 use Rattle.names.specs.Paths.{path-bytes}
 use Rattle.modules.specs.Rows.{names-of}
 use Rattle.walks.specs.declared.place.Place.{Place}

@@ -1,22 +1,18 @@
-use mathlib.Core.Path.{_≡_, refl, sym, ap, subst, _∙_}
-use mathlib.Core.List.{List, map}
-use Prim.Native.Nat.{ℕ, _+_, _<_, _≤_}
+-- A place that brings a list, one that stops the walk, and the end. Assumes nothing.
+use mathlib.Core.Path.{sym, subst, _∙_}
+use mathlib.Core.List.{map}
+use Prim.Native.Nat.{_<_, _≤_}
 use native.Mathlib.Omega.{arith}
 use lib.ListN.{length, take}
 use Rattle.std.specs.declared.result.Result.the-variants.{Ok, Err}
-use Rattle.std.proofs.shelf.Lists.{length-take-le, length-map}
-use Rattle.rules.specs.Sources.{Meaning, Lawful}
+use Rattle.rules.specs.Sources.{Meaning}
 use Rattle.names.specs.Paths.{path-bytes}
-use Rattle.walks.specs.declared.place.Place.{Place}
 use Rattle.walks.specs.Places.{place-of}
 use Rattle.walks.specs.Stops.{Tells}
 use Rattle.walks.specs.Views.{seen-by, asked-at}
-use Rattle.walks.proofs.Telling.{tells-by}
+use Rattle.walks.proofs.Telling.{front-long, tells-by}
 use Rattle.walks.proofs.Walking.{goes-on, stops-here, goes-out}
 use Rattle.walks.proofs.walk.walk_on.Needs as need
-
-front-long : (ps : List Place) (n : ℕ) → n ≤ length ps → length (map place-of (take n ps)) ≡ n
-front-long ps n h = length-map (take n ps) place-of ∙ length-take-le n ps h
 
 pub loop-at-again : need.loop-at-again
 loop-at-again g c =

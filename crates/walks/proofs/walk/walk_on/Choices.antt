@@ -1,3 +1,4 @@
+-- The walk from this place on is the whole walk, and every row but the main row is well formed. Assumes nothing.
 use mathlib.Core.Path.{_≡_}
 use mathlib.Core.List.{map}
 use Prim.Native.Nat.{_≤_, _-_}
