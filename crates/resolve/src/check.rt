@@ -25,13 +25,23 @@ pub fn check(rt: &LibcRuntime, file: &str) -> Result<Done, AnyError> {
     let text = file_bytes(rt, file)?;
     let mut required = [Row::blank(); 256];
     let mut excluded = [Row::blank(); 32];
-    match read(text.as_slice(), Owner::Project, &mut required, &mut excluded) {
+    match read(
+        text.as_slice(),
+        Owner::Project,
+        &mut required,
+        &mut excluded,
+    ) {
         Ok(manifest) => print_manifest(rt, &manifest, &required, &excluded),
         Err(refusal) => print_refusal(rt, refusal),
     }
 }
 
-fn print_manifest(rt: &LibcRuntime, manifest: &Manifest, required: &[Row], excluded: &[Row]) -> Result<Done, AnyError> {
+fn print_manifest(
+    rt: &LibcRuntime,
+    manifest: &Manifest,
+    required: &[Row],
+    excluded: &[Row],
+) -> Result<Done, AnyError> {
     let main = text_of(rt, manifest.main.as_bytes())?;
     println!(rt, "module {main}")?;
     for row in required.iter().take(manifest.required) {

@@ -41,7 +41,10 @@ fn rows_of_a_source(rt: LibcRuntime) -> Result<(), Fail> {
     let full = repeated(rt.alloc(), b"require a v1.0.0\n", 64)?;
     check_eq(counts(full.as_slice(), Owner::Source), Ok((64, 0)))?;
     let over = repeated(rt.alloc(), b"require a v1.0.0\n", 65)?;
-    check_eq(counts(over.as_slice(), Owner::Source), refused(Cause::RowTooMany, 66))
+    check_eq(
+        counts(over.as_slice(), Owner::Source),
+        refused(Cause::RowTooMany, 66),
+    )
 }
 
 #[test]
@@ -49,7 +52,10 @@ fn rows_of_a_project(rt: LibcRuntime) -> Result<(), Fail> {
     let full = repeated(rt.alloc(), b"require a v1.0.0\n", 256)?;
     check_eq(counts(full.as_slice(), Owner::Project), Ok((256, 0)))?;
     let over = repeated(rt.alloc(), b"require a v1.0.0\n", 257)?;
-    check_eq(counts(over.as_slice(), Owner::Project), refused(Cause::RowTooMany, 258))
+    check_eq(
+        counts(over.as_slice(), Owner::Project),
+        refused(Cause::RowTooMany, 258),
+    )
 }
 
 #[test]
@@ -57,7 +63,10 @@ fn exclude_rows(rt: LibcRuntime) -> Result<(), Fail> {
     let full = repeated(rt.alloc(), b"exclude a v1.0.0\n", 32)?;
     check_eq(counts(full.as_slice(), Owner::Source), Ok((0, 32)))?;
     let over = repeated(rt.alloc(), b"exclude a v1.0.0\n", 33)?;
-    check_eq(counts(over.as_slice(), Owner::Project), refused(Cause::RowTooMany, 34))
+    check_eq(
+        counts(over.as_slice(), Owner::Project),
+        refused(Cause::RowTooMany, 34),
+    )
 }
 
 #[test]
@@ -66,24 +75,56 @@ fn lengths(rt: LibcRuntime) -> Result<(), Fail> {
     check(text.len() == 32768)?;
     check_eq(counts(text.as_slice(), Owner::Project), Ok((0, 0))).note("32,768 bytes")?;
     text.push(b'\n')?;
-    check_eq(counts(text.as_slice(), Owner::Project), refused(Cause::TooLong, 0)).note("32,769 bytes")
+    check_eq(
+        counts(text.as_slice(), Owner::Project),
+        refused(Cause::TooLong, 0),
+    ).note("32,769 bytes")
 }
 
 #[test]
 fn line_ends_and_comments() -> Result<(), Fail> {
-    check_eq(counts(b"module m\r\nrequire a v1.0.0\r\n", Owner::Project), Ok((1, 0))).note("CRLF")?;
-    check_eq(counts(b"module m // \"the end", Owner::Project), Ok((0, 0))).note("a comment at the very end")?;
+    check_eq(
+        counts(b"module m\r\nrequire a v1.0.0\r\n", Owner::Project),
+        Ok((1, 0)),
+    ).note("CRLF")?;
+    check_eq(counts(b"module m // \"the end", Owner::Project), Ok((0, 0))).note(
+        "a comment at the very end",
+    )?;
     check_eq(counts(b"module m//n", Owner::Project), Ok((0, 0))).note("a comment inside a word")?;
     check_eq(counts(b"", Owner::Project), refused(Cause::ModuleLine, 0)).note("an empty text")?;
-    check_eq(counts(b"module m\nrequire a v1.0.0 // x\n\nrequire b\n", Owner::Project), refused(Cause::WrongShape, 4)).note("lines are counted past comments")
+    check_eq(
+        counts(
+            b"module m\nrequire a v1.0.0 // x\n\nrequire b\n",
+            Owner::Project,
+        ),
+        refused(Cause::WrongShape, 4),
+    ).note("lines are counted past comments")
 }
 
 #[test]
 fn refusals_in_their_order() -> Result<(), Fail> {
-    check_eq(counts(b"module m\nrequire .a \"v1\"\n", Owner::Project), refused(Cause::BadByte, 2))?;
-    check_eq(counts(b"module m\nrequire .a v1 x\n", Owner::Project), refused(Cause::WrongShape, 2))?;
-    check_eq(counts(b"module m\nrequire .a v1\n", Owner::Project), refused(Cause::BadPath, 2))?;
-    check_eq(counts(b"module m\nrequire a v1\n", Owner::Project), refused(Cause::BadVersion, 2))?;
-    check_eq(counts(b"module m\nmodule m\n", Owner::Project), refused(Cause::ModuleLine, 2))?;
-    check_eq(counts(b"retract (\n", Owner::Project), refused(Cause::WrongShape, 0)).note("an open block comes before no module line")
+    check_eq(
+        counts(b"module m\nrequire .a \"v1\"\n", Owner::Project),
+        refused(Cause::BadByte, 2),
+    )?;
+    check_eq(
+        counts(b"module m\nrequire .a v1 x\n", Owner::Project),
+        refused(Cause::WrongShape, 2),
+    )?;
+    check_eq(
+        counts(b"module m\nrequire .a v1\n", Owner::Project),
+        refused(Cause::BadPath, 2),
+    )?;
+    check_eq(
+        counts(b"module m\nrequire a v1\n", Owner::Project),
+        refused(Cause::BadVersion, 2),
+    )?;
+    check_eq(
+        counts(b"module m\nmodule m\n", Owner::Project),
+        refused(Cause::ModuleLine, 2),
+    )?;
+    check_eq(
+        counts(b"retract (\n", Owner::Project),
+        refused(Cause::WrongShape, 0),
+    ).note("an open block comes before no module line")
 }

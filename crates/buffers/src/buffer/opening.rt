@@ -1,18 +1,21 @@
 // Opening a buffer as a kind.
 ghost use mathlib.Core.Path.{_≡_};
 ghost use mathlib.Core.Bool.{true, false};
+ghost use mathlib.Core.List.{[]};
 ghost use Rattle.std.specs.Results.{isOk};
 ghost use Rattle.fields.specs.Views.{opening-of};
 ghost use Rattle.buffers.specs.Kinds.{meaning-as, opening-as, buffer-meaning};
-use causes::refusal::Refusal;
-use shelf::shelf::Shelf;
 use super::Buffer;
 use super::Kind;
+use causes::refusal::Refusal;
+use shelf::shelf::Shelf;
 use tree::tree::Tree;
 
 impl<'a> Buffer<'a> {
     // A tree with no file.
-    pub fn empty() -> Buffer<'a> {
+    pub fn empty() -> Buffer<'a>
+        ensures value { λ r. ⌜ buffer-meaning r ≡ meaning-as Kind.Tree [] ⌝ }
+    {
         Buffer {
             kind: Kind::Tree,
             shelf: Shelf::empty(),

@@ -1,5 +1,7 @@
 // A buffer is a source, and can list.
 ghost use Rattle.buffers.specs.Kinds.{buffer-meaning, buffer-lawful};
+use super::Buffer;
+use super::Kind;
 use modules::rows::ModuleVersion;
 use modules::rows::Row;
 use names::path::Path;
@@ -9,8 +11,6 @@ use source::fault::Fault;
 use source::fault::Found;
 use source::questions::ListingSource;
 use source::questions::Source;
-use super::Buffer;
-use super::Kind;
 use tree::questions::TreeListing;
 use tree::questions::TreeSource;
 use versions::version::PlainVersion;
