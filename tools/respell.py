@@ -119,4 +119,5 @@ def main():
     print(len(own), "names respelled in", changed, "files;", len(left), "other names with a dash, which are not ours")
 
 
-main()
+if __name__ == "__main__":
+    main()

@@ -17,20 +17,20 @@ returns-then-versions-lt-MOST c =
     c.if-versions-lt-MOST.true c.blank-blank.ensures c.refuse.ensures.value c.refuse.ensures.items in
     record { value = value; items = items }
 
-pub returns-in-default : goal.returns-in-default
-returns-in-default c =
+pub returns-in_default : goal.returns-in_default
+returns-in_default c =
     let (value, items) = tells_fault plain_version_bytes blank_version (length c.args.versions.now) (listing_answer (option_map listing_bytes c.args.listing)) over_64 c.blank-blank.result _
-    c.refuse-in-default.new.items c.if-versions-lt-MOST.false (ap (λ o. listing_answer (option_map listing_bytes o)) c.in-default.is)
-    c.blank-blank.ensures c.refuse-in-default.ensures.value c.refuse-in-default.ensures.items in
+    c.refuse-in_default.new.items c.if-versions-lt-MOST.false (ap (λ o. listing_answer (option_map listing_bytes o)) c.in_default.is)
+    c.blank-blank.ensures c.refuse-in_default.ensures.value c.refuse-in_default.ensures.items in
     record { value = value; items = items }
 
 pub returns : goal.returns
 returns c =
-    let xs = c.as-slice-listed.result.now in
+    let xs = c.as_slice-listed.result.now in
     let n = length c.args.versions.now in
-    let room : length xs ≤ n = omega (arith, listing_fits c.in-Some.listing, ap length c.as-slice-listed.ensures, length-map xs plain_version_bytes) in
+    let room : length xs ≤ n = omega (arith, listing_fits c.in-Some.listing, ap length c.as_slice-listed.ensures, length-map xs plain_version_bytes) in
     let (value, items) = tells_found plain_version_bytes blank_version (length c.args.versions.now) (listing_answer (option_map listing_bytes c.args.listing))
-    c.as-slice-listed.result.now c.blank-blank.result _ c.lay.new.items c.if-versions-lt-MOST.false
-    (ap (λ o. listing_answer (option_map listing_bytes o)) c.in-Some.is ∙ ap found (sym c.as-slice-listed.ensures))
+    c.as_slice-listed.result.now c.blank-blank.result _ c.lay.new.items c.if-versions-lt-MOST.false
+    (ap (λ o. listing_answer (option_map listing_bytes o)) c.in-Some.is ∙ ap found (sym c.as_slice-listed.ensures))
     c.blank-blank.ensures refl (c.lay.ensures.items ∙ ap (filled c.blank-blank.result n) (take_all n xs room)) in
     record { value = value; items = items }

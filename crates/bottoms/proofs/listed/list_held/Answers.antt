@@ -13,8 +13,8 @@ returns-in-Some c =
     let t = listing_bytes c.args.listing.now in
     let is = ap (λ o. entered_held (option_map plain_version_bytes o) t) (sym c.in-Some.is) in
     record {
-      value = c.list-version.ensures.value ∙ ap (λ ys. leb (length ys) 64) is;
-      after = c.list-version.ensures.after ∙ ap (λ ys. cond c.list-version.result ys t) is;
+      value = c.list_version.ensures.value ∙ ap (λ ys. leb (length ys) 64) is;
+      after = c.list_version.ensures.after ∙ ap (λ ys. cond c.list_version.result ys t) is;
     }
 
 pub returns-in-None : goal.returns-in-None

@@ -15,4 +15,4 @@ text_behind s p None h = behind_told s p None h
 text_behind s p (Some x) h = behind_told s p (Some x) (h.1.1 ∙ ap (λ t. p ++ t) (sym h.2))
 
 pub returns : goal.returns
-returns c = record { value = text_behind c.args.word.now c.args.text.now _ c.strip-prefix.ensures.cases }
+returns c = record { value = text_behind c.args.word.now c.args.text.now _ c.strip_prefix.ensures.cases }

@@ -8,7 +8,7 @@ returns c =
     let bs = c.args.bytes.now in
     record {
       after = λ h.
-          both_pushed (vec_items c.args.buffer.now) (vec_items c.extend-from-slice.new.self) (vec_items c.extend-from-slice-2.new.self)
+          both_pushed (vec_items c.args.buffer.now) (vec_items c.extend_from_slice.new.self) (vec_items c.extend_from_slice-2.new.self)
           (c.args.tag ∷ (length bs / 256) ∷ (length bs % 256) ∷ []) bs _ _
-          (ap is_ok c.in-ok-extend-from-slice.was) c.extend-from-slice.ensures.items h c.extend-from-slice-2.ensures.items;
+          (ap is_ok c.in_ok-extend_from_slice.was) c.extend_from_slice.ensures.items h c.extend_from_slice-2.ensures.items;
     }

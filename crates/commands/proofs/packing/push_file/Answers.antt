@@ -7,22 +7,22 @@ use Rattle.commands.proofs.Packed.{both_joined, file_length}
 use Rattle.commands.proofs.Reread.{packing_right}
 use Rattle.commands.proofs.packing.push_file.Goals as goal
 
-pub returns-then-name-gt-LONGEST-FIELD : goal.returns-then-name-gt-LONGEST-FIELD
-returns-then-name-gt-LONGEST-FIELD c = record { after = λ h. absurd (true≢false (sym h)); read = packing_right; refused = search rules }
+pub returns-then-name-gt-LONGEST_FIELD : goal.returns-then-name-gt-LONGEST_FIELD
+returns-then-name-gt-LONGEST_FIELD c = record { after = λ h. absurd (true≢false (sym h)); read = packing_right; refused = search rules }
 
 pub returns-then-name-body : goal.returns-then-name-body
 returns-then-name-body c =
     record {
       after = λ h. absurd (true≢false (sym h));
       read = packing_right;
-      refused = omega (arith, file_length c.args.name.now c.args.body.now, c.args.buffer.now.ok.0, c.len.ensures, c.saturating-sub-room.ensures, c.if-name-body.true);
+      refused = omega (arith, file_length c.args.name.now c.args.body.now, c.args.buffer.now.ok.0, c.len.ensures, c.saturating_sub-room.ensures, c.if-name-body.true);
     }
 
-pub returns-in-err-push-field : goal.returns-in-err-push-field
-returns-in-err-push-field c = record { after = search rules; read = packing_right; refused = search rules }
+pub returns-in_err-push_field : goal.returns-in_err-push_field
+returns-in_err-push_field c = record { after = search rules; read = packing_right; refused = search rules }
 
-pub returns-in-err-push-field-2 : goal.returns-in-err-push-field-2
-returns-in-err-push-field-2 c = record { after = search rules; read = packing_right; refused = search rules }
+pub returns-in_err-push_field-2 : goal.returns-in_err-push_field-2
+returns-in_err-push_field-2 c = record { after = search rules; read = packing_right; refused = search rules }
 
 pub returns : goal.returns
 returns c =
@@ -30,8 +30,8 @@ returns c =
     let body = c.args.body.now in
     record {
       after = λ h.
-          both_joined (vec_items c.args.buffer.now) (vec_items c.push-field.new.buffer) (vec_items c.push-field-2.new.buffer) (field tag_N name) (field tag_B body)
-          (c.push-field.ensures.after (ap is_ok c.in-ok-push-field.was)) (c.push-field-2.ensures.after (ap is_ok c.in-ok-push-field-2.was));
+          both_joined (vec_items c.args.buffer.now) (vec_items c.push_field.new.buffer) (vec_items c.push_field-2.new.buffer) (field tag_N name) (field tag_B body)
+          (c.push_field.ensures.after (ap is_ok c.in_ok-push_field.was)) (c.push_field-2.ensures.after (ap is_ok c.in_ok-push_field-2.was));
       read = packing_right;
-      refused = (omega arith, omega arith, omega (arith, file_length name body, c.args.buffer.now.ok.0, c.len.ensures, c.saturating-sub-room.ensures, c.if-name-body.false));
+      refused = (omega arith, omega arith, omega (arith, file_length name body, c.args.buffer.now.ok.0, c.len.ensures, c.saturating_sub-room.ensures, c.if-name-body.false));
     }

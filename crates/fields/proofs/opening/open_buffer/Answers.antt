@@ -11,13 +11,13 @@ returns-then-bytes-gt-LONGEST g c = record { value = ap Err c.at.ensures.value �
 pub loop-rest-init : goal.loop-rest-init
 loop-rest-init g c = (omega arith, opened_within _ _ _ _ (omega arith))
 
-pub overflow-sub-place : goal.overflow-sub-place
-overflow-sub-place g c = omega (arith, c.loop-rest.invariant.0)
+pub overflow_sub-place : goal.overflow_sub-place
+overflow_sub-place g c = omega (arith, c.loop-rest.invariant.0)
 
-pub returns-in-default : goal.returns-in-default
-returns-in-default g c =
+pub returns-in_default : goal.returns-in_default
+returns-in_default g c =
     record {
-      value = ap Err c.at-in-default.ensures.value ∙ sym (c.loop-rest.invariant.1 ∙ at_torn _ _ _ _ _ (omega (arith, false-eqb _ 0 c.loop-rest-test.ensures)) c.in-default.ensures.value);
+      value = ap Err c.at-in_default.ensures.value ∙ sym (c.loop-rest.invariant.1 ∙ at_torn _ _ _ _ _ (omega (arith, false-eqb _ 0 c.loop-rest-test.ensures)) c.in_default.ensures.value);
     }
 
 pub returns-in-Err : goal.returns-in-Err
@@ -36,12 +36,12 @@ loop-rest-preserved g c =
       c.loop-rest.invariant.1 ∙ one_more _ _ _ _ _ _ c.in-Some.ensures.value _ c.loop-rest.invariant.0 c.in-Ok.ensures.value,
     )
 
-pub returns-then-may-end : goal.returns-then-may-end
-returns-then-may-end g c =
-    record { value = sym (c.loop-rest.invariant.1 ∙ ends_well _ _ _ _ _ (true-eqb _ 0 c.loop-rest-test.ensures) (sym c.if-may-end.ensures.value)) }
+pub returns-then-may_end : goal.returns-then-may_end
+returns-then-may_end g c =
+    record { value = sym (c.loop-rest.invariant.1 ∙ ends_well _ _ _ _ _ (true-eqb _ 0 c.loop-rest-test.ensures) (sym c.if-may_end.ensures.value)) }
 
-pub returns-else-may-end : goal.returns-else-may-end
-returns-else-may-end g c =
+pub returns-else-may_end : goal.returns-else-may_end
+returns-else-may_end g c =
     record {
-      value = ap Err c.at-else-may-end.ensures.value ∙ sym (c.loop-rest.invariant.1 ∙ ends_early _ _ _ _ _ (true-eqb _ 0 c.loop-rest-test.ensures) (sym c.if-may-end.ensures.value));
+      value = ap Err c.at-else-may_end.ensures.value ∙ sym (c.loop-rest.invariant.1 ∙ ends_early _ _ _ _ _ (true-eqb _ 0 c.loop-rest-test.ensures) (sym c.if-may_end.ensures.value));
     }

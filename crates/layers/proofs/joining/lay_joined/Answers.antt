@@ -16,10 +16,10 @@ returns-in-Some c =
     let z : c.args.count - 0 ≡ c.args.count = omega arith in
     let joins = λ (k : ℕ). joined_versions (listing_bytes c.args.listing.now) (map plain_version_bytes (take k c.args.versions.now)) in
     let f = fitted _ (joins c.args.count) (c.in-Some.ensures ∙ ap (λ k. fitting 64 (joins k)) z) in
-    let xs = c.as-slice-joined.result.now in
-    let room : length xs ≤ n = omega (arith, c.requires.long, f.1, ap length f.0, ap length c.as-slice-joined.ensures, length-map xs plain_version_bytes) in
+    let xs = c.as_slice-joined.result.now in
+    let room : length xs ≤ n = omega (arith, c.requires.long, f.1, ap length f.0, ap length c.as_slice-joined.ensures, length-map xs plain_version_bytes) in
     let (value, items) = tells_found plain_version_bytes blank_version n (at_most_64 (found (joins c.args.count))) xs c.blank.result _ c.lay.new.items c.requires.long
-    (few_listed (joins c.args.count) f.1 ∙ ap found (sym (c.as-slice-joined.ensures ∙ f.0))) c.blank.ensures refl (c.lay.ensures.items ∙ ap (filled c.blank.result n) (take_all n xs room)) in
+    (few_listed (joins c.args.count) f.1 ∙ ap found (sym (c.as_slice-joined.ensures ∙ f.0))) c.blank.ensures refl (c.lay.ensures.items ∙ ap (filled c.blank.result n) (take_all n xs room)) in
     record { value = value; items = items }
 
 pub returns-in-None : goal.returns-in-None

@@ -13,6 +13,6 @@ returns c = record {
     fifth = search rules;
     sixth = search rules;
     more = search rules;
-    bracket = c.has-bracket.ensures.value ∙ ap not (sym (plain_words c.args.line.code.now));
+    bracket = c.has_bracket.ensures.value ∙ ap not (sym (plain_words c.args.line.code.now));
   };
 }

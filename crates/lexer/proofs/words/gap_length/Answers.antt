@@ -6,8 +6,8 @@ use Rattle.lexer.proofs.words.gap_length.Goals as goal
 pub loop-n-preserved : goal.loop-n-preserved
 loop-n-preserved c = search (rules, prefix_len-drop_yes)
 
-pub returns-else-is-gap : goal.returns-else-is-gap
-returns-else-is-gap c = search (rules, prefix_len-drop_no)
+pub returns-else-is_gap : goal.returns-else-is_gap
+returns-else-is_gap c = search (rules, prefix_len-drop_no)
 
 pub returns-after-loop-n : goal.returns-after-loop-n
 returns-after-loop-n c = search (rules, prefix_len-drop_all)

@@ -6,8 +6,8 @@ use Rattle.lexer.proofs.words.word_length.Goals as goal
 pub loop-n-preserved : goal.loop-n-preserved
 loop-n-preserved c = search (rules, prefix_len-drop_yes)
 
-pub returns-else-is-word-byte : goal.returns-else-is-word-byte
-returns-else-is-word-byte c = search (rules, prefix_len-drop_no)
+pub returns-else-is_word_byte : goal.returns-else-is_word_byte
+returns-else-is_word_byte c = search (rules, prefix_len-drop_no)
 
 pub returns-after-loop-n : goal.returns-after-loop-n
 returns-after-loop-n c = search (rules, prefix_len-drop_all)

@@ -13,8 +13,8 @@ use Rattle.lowers.specs.Learned.{edges_in, Edged}
 use Rattle.lowers.proofs.Edging.{edged_none, edged_one, off_on, off_off}
 use Rattle.lowers.proofs.edges.write_edge.Goals as goal
 
-pub returns-then-is-on : goal.returns-then-is-on
-returns-then-is-on c =
+pub returns-then-is_on : goal.returns-then-is_on
+returns-then-is_on c =
     let ps = c.args.sheet.now in
     let n = c.args.count in
     let s = map place_of (take n ps) in
@@ -22,7 +22,7 @@ returns-then-is-on c =
     let x = row_names c.args.row in
     let es = edges_in c.args.learned.now in
     let fits : n ≤ length ps = omega arith in
-    let none = off_on main x c.if-is-on.ensures.value in
+    let none = off_on main x c.if-is_on.ensures.value in
     let e = ap (λ (xs : List ModuleVersion). written c.args.at xs s) none in
     record {
       value = tells_room (written c.args.at (off_main main (x ∷ [])) s) ps n (omega (arith, ap length e, front_long ps n fits)) fits e;
@@ -36,8 +36,8 @@ returns-in-Ok c =
     let main = path_bytes c.args.main.now in
     let x = row_names c.args.row in
     let es = edges_in c.args.learned.now in
-    let one = off_off main x c.if-is-on.ensures.value in
-    let after = c.write-row.new.sheet in
+    let one = off_off main x c.if-is_on.ensures.value in
+    let after = c.write_row.new.sheet in
     let w = c.in-Ok.written in
     let t = module_versions (map place_of (take w.places after)) in
     record {
@@ -50,9 +50,9 @@ returns-in-Ok c =
 pub returns-in-Err : goal.returns-in-Err
 returns-in-Err c =
     let s = map place_of (take c.args.count c.args.sheet.now) in
-    let one = off_off (path_bytes c.args.main.now) (row_names c.args.row) c.if-is-on.ensures.value in
+    let one = off_off (path_bytes c.args.main.now) (row_names c.args.row) c.if-is_on.ensures.value in
     record {
-      value = subst (λ (xs : List ModuleVersion). Tells (if_room (ended done) (written c.args.at xs s)) (Err c.in-Err.stop) c.write-row.new.sheet) one c.in-Err.ensures.value;
+      value = subst (λ (xs : List ModuleVersion). Tells (if_room (ended done) (written c.args.at xs s)) (Err c.in-Err.stop) c.write_row.new.sheet) one c.in-Err.ensures.value;
       marks = refl;
       edges = tt;
     }

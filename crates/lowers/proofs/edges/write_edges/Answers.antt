@@ -15,8 +15,8 @@ loop-row-init c =
     let few : c.args.count ≤ 256 = omega arith in
     (few, refl, refl, edged_none c.args.at (edges_in c.args.learned.now) (module_versions (map place_of (take c.args.count c.args.sheet.now))))
 
-pub write-edge-requires : goal.write-edge-requires
-write-edge-requires c =
+pub write_edge-requires : goal.write_edge-requires
+write_edge-requires c =
     let (few, so_far, marks, edged) = c.loop-row.invariant in
     let long : 256 ≤ length c.loop-row.sheet = omega (arith, c.loop-row.auto.sheet) in
     let room : length (edges_in c.loop-row.learned) < 16384 =
@@ -30,12 +30,12 @@ loop-row-preserved c =
     let s = map place_of (take c.args.count c.args.sheet.now) in
     let front = map place_of (take c.loop-row.places c.loop-row.sheet) in
     let (n, e) = turn_ok row_names main c.args.at c.args.rows.now s c.loop-row.row-index c.row-item.result c.row-item.result
-    c.loop-row-test.true c.row-item.is front so_far c.write-edge.new.sheet c.in-Ok.more c.in-Ok.ensures.value in (
+    c.loop-row-test.true c.row-item.is front so_far c.write_edge.new.sheet c.in-Ok.more c.in-Ok.ensures.value in (
       n,
       e,
       c.in-Ok.ensures.marks ∙ marks,
-      edges_turn main c.args.at c.args.rows.now c.loop-row.row-index c.row-item.result c.loop-row-test.true c.row-item.is front c.in-Ok.more c.write-edge.new.sheet
-          (edges_in c.args.learned.now) (edges_in c.loop-row.learned) (edges_in c.write-edge.new.learned) edged c.in-Ok.ensures.value c.in-Ok.ensures.edges,
+      edges_turn main c.args.at c.args.rows.now c.loop-row.row-index c.row-item.result c.loop-row-test.true c.row-item.is front c.in-Ok.more c.write_edge.new.sheet
+          (edges_in c.args.learned.now) (edges_in c.loop-row.learned) (edges_in c.write_edge.new.learned) edged c.in-Ok.ensures.value c.in-Ok.ensures.edges,
     )
 
 pub returns-in-Err : goal.returns-in-Err
@@ -44,7 +44,7 @@ returns-in-Err c =
     let s = map place_of (take c.args.count c.args.sheet.now) in
     record {
       value = turn_err row_names (path_bytes c.args.main.now) c.args.at c.args.rows.now s c.loop-row.row-index c.row-item.result c.row-item.result
-          c.loop-row-test.true c.row-item.is (map place_of (take c.loop-row.places c.loop-row.sheet)) so_far c.write-edge.new.sheet c.in-Err.stop c.in-Err.ensures.value;
+          c.loop-row-test.true c.row-item.is (map place_of (take c.loop-row.places c.loop-row.sheet)) so_far c.write_edge.new.sheet c.in-Err.stop c.in-Err.ensures.value;
       marks = c.in-Err.ensures.marks ∙ marks;
       edges = tt;
     }

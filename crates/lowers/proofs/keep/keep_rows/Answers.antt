@@ -17,8 +17,8 @@ loop-i-init c =
     let e = c.new-rows.ensures in
     (omega arith, omega (arith, ap length e), ap (λ (t : List ModuleVersion). entered_all path_of path_order keep t (spared (is_marked c.args.learned.now) 1 (module_versions (map place_of (drop 1 c.args.sheet.now))))) e)
 
-pub keep-place-requires : goal.keep-place-requires
-keep-place-requires c =
+pub keep_place-requires : goal.keep_place-requires
+keep_place-requires c =
     let lt : c.loop-i.i < 256 = omega arith in
     let few : length (requirement_names c.loop-i.rows) < 256 = omega (arith, c.loop-i.invariant.1) in
     (lt, few)
@@ -31,7 +31,7 @@ loop-i-preserved c =
     let t = requirement_names c.loop-i.rows in
     let d = c.index-sheet-i.result in
     subst (λ (u : List ModuleVersion). Keeping mark ps (i + 1) u)
-    (sym c.keep-place.ensures.after)
+    (sym c.keep_place.ensures.after)
     (keeping_more mark ps i t c.loop-i.invariant d c.loop-i-test.true)
 
 pub returns : goal.returns

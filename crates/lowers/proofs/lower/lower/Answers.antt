@@ -40,14 +40,14 @@ held w start n places rows sheet list e q =
       omega (arith, list_short w start g.1),
     )
 
-pub slice-bounds-lower-rows-end : goal.slice-bounds-lower-rows-end
-slice-bounds-lower-rows-end g c =
+pub slice_bounds-lower_rows-end : goal.slice_bounds-lower_rows-end
+slice_bounds-lower_rows-end g c =
     let w = seen_by (path_bytes c.args.main.now) (g.S.Source.meaning c.args.source.now) in
     (held w (map names_of c.args.start.now) (lent c.args.sheet.now c.args.list.now) c.in-Ok.counts.places c.in-Ok.counts.rows c.list.new.sheet c.list.new.list
     c.in-Ok.ensures.value c.in-Ok.ensures.after).0
 
-pub lower-rows-requires : goal.lower-rows-requires
-lower-rows-requires g c =
+pub lower_rows-requires : goal.lower_rows-requires
+lower_rows-requires g c =
     let main = path_bytes c.args.main.now in
     let w = seen_by main (g.S.Source.meaning c.args.source.now) in
     let start = map names_of c.args.start.now in
@@ -88,16 +88,16 @@ returns-in-Ok g c =
     let cs = map (ceiling_of p v) xs in
     let k : length part ≡ length (behind w start) = sym (length-map part row_names) ∙ ap length is in
     record {
-      same = c.lower-rows.ensures.same ∙ same;
-      inside = c.lower-rows.ensures.inside ∙ c.in-Ok.ensures.inside;
-      value = c.lower-rows.ensures.value
+      same = c.lower_rows.ensures.same ∙ same;
+      inside = c.lower_rows.ensures.inside ∙ c.in-Ok.ensures.inside;
+      value = c.lower_rows.ensures.value
           ∙ ap (λ (m : Meaning). cond (lowerable p v xs) (replied (lower_walk_from (seen_by main m) cs).end (length (lower_walk_from (seen_by main m) cs).sheet) (length part + 1)) (refused (refusal_for nothing_to_change))) same
           ∙ given_reply w start p v n rows old xs is (length part) k;
-      kept = c.lower-rows.ensures.kept
+      kept = c.lower_rows.ensures.kept
           ∙ ap (λ (m : Meaning). cond (lowerable p v xs) (if_done (lower_walk_from (seen_by main m) cs).end (Some (kept_rows (seen_by main m) cs)) None) None) same
           ∙ given_kept w start p v n rows old xs is;
-      formed = c.lower-rows.ensures.formed;
-      after = ap (λ (s : List R.Place). record { sheet = s; list = map row_names list }) (c.lower-rows.ensures.after
+      formed = c.lower_rows.ensures.formed;
+      after = ap (λ (s : List R.Place). record { sheet = s; list = map row_names list }) (c.lower_rows.ensures.after
           ∙ ap (λ (m : Meaning). cond (lowerable p v xs) (filled blank_place (length sheet) (take 256 (lower_walk_from (seen_by main m) cs).sheet)) (map place_of sheet)) same)
           ∙ given_after w start p v n rows old xs is (length sheet) c.list.auto.sheet (map row_names list) (map place_of sheet) q;
     }

@@ -22,13 +22,13 @@ use Rattle.lowers.proofs.lower.lower_rows.Goals as goal
 lent_ceilings : (rows : List Row) (cs : List ModuleVersion) (n : ℕ) → map row_names (take n rows) ≡ cs → map row_names (take (n - 0) rows) ≡ cs
 lent_ceilings rows cs n e = let k : n - 0 ≡ n = omega arith in ap (λ (j : ℕ). map row_names (take j rows)) k ∙ e
 
-pub lower-ceilings-requires : goal.lower-ceilings-requires
-lower-ceilings-requires g c =
+pub lower_ceilings-requires : goal.lower_ceilings-requires
+lower_ceilings-requires g c =
     let main = path_bytes c.args.main.now in
     let p = path_bytes c.args.path.now in
     let v = version_bytes c.args.version.now in
     let xs = map row_names c.args.rows.now in
-    let e = sym (lent_ceilings c.write-ceilings.new.ceilings (map (ceiling_of p v) xs) (length c.args.rows.now) c.write-ceilings.ensures.after) in
+    let e = sym (lent_ceilings c.write_ceilings.new.ceilings (map (ceiling_of p v) xs) (length c.args.rows.now) c.write_ceilings.ensures.after) in
     let long : 256 ≤ length c.args.sheet.now = omega arith in (
       long,
       subst (λ (cs : List ModuleVersion). All (λ x. is_path x.path ≡ true) cs) e (ceilings_formed main p v xs c.requires.1 c.requires.2.0 c.requires.2.1),
@@ -45,16 +45,16 @@ returns g c =
     let v = version_bytes c.args.version.now in
     let n = length c.args.rows.now in
     let cs = map (ceiling_of p v) (map row_names c.args.rows.now) in
-    let e = lent_ceilings c.write-ceilings.new.ceilings cs n c.write-ceilings.ensures.after in
-    let t = c.if-not-can-lower.ensures.value in
+    let e = lent_ceilings c.write_ceilings.new.ceilings cs n c.write_ceilings.ensures.after in
+    let t = c.if-not-can_lower.ensures.value in
     record {
-      same = c.lower-ceilings.ensures.same;
-      inside = c.lower-ceilings.ensures.inside;
-      value = c.lower-ceilings.ensures.value ∙ ap (λ (ds : List ModuleVersion). replied (lower_walk_from w ds).end (length (lower_walk_from w ds).sheet) (n + 1)) e
+      same = c.lower_ceilings.ensures.same;
+      inside = c.lower_ceilings.ensures.inside;
+      value = c.lower_ceilings.ensures.value ∙ ap (λ (ds : List ModuleVersion). replied (lower_walk_from w ds).end (length (lower_walk_from w ds).sheet) (n + 1)) e
           ∙ ap (λ (b : Bool). cond b (replied (lower_walk_from w cs).end (length (lower_walk_from w cs).sheet) (n + 1)) (refused (refusal_for nothing_to_change))) t;
-      kept = c.lower-ceilings.ensures.kept ∙ ap (λ (ds : List ModuleVersion). if_done (lower_walk_from w ds).end (Some (kept_rows w ds)) None) e
+      kept = c.lower_ceilings.ensures.kept ∙ ap (λ (ds : List ModuleVersion). if_done (lower_walk_from w ds).end (Some (kept_rows w ds)) None) e
           ∙ ap (λ (b : Bool). cond b (if_done (lower_walk_from w cs).end (Some (kept_rows w cs)) None) None) t;
-      formed = c.lower-ceilings.ensures.formed;
-      after = c.lower-ceilings.ensures.after ∙ ap (λ (ds : List ModuleVersion). filled blank_place (length c.args.sheet.now) (take 256 (lower_walk_from w ds).sheet)) e
+      formed = c.lower_ceilings.ensures.formed;
+      after = c.lower_ceilings.ensures.after ∙ ap (λ (ds : List ModuleVersion). filled blank_place (length c.args.sheet.now) (take 256 (lower_walk_from w ds).sheet)) e
           ∙ ap (λ (b : Bool). cond b (filled blank_place (length c.args.sheet.now) (take 256 (lower_walk_from w cs).sheet)) (map place_of c.args.sheet.now)) t;
     }

@@ -16,9 +16,9 @@ use Rattle.walks.proofs.Telling.{tells_by}
 use Rattle.walks.proofs.Walking.{tells_fault}
 use Rattle.lowers.proofs.offers.write_offer.Goals as goal
 
-pub slice-bounds-write-versions-end : goal.slice-bounds-write-versions-end
-slice-bounds-write-versions-end g c =
-    let p = path_bytes c.checked-path-of.result in
+pub slice_bounds-write_versions-end : goal.slice_bounds-write_versions-end
+slice_bounds-write_versions-end g c =
+    let p = path_bytes c.checked_path-of.result in
     let all : 64 ≤ length (replicate 64 c.blank-versions.result) = omega (arith, length-replicate 64 c.blank-versions.result) in
     found_fits plain_version_bytes blank_version (length (replicate 64 c.blank-versions.result)) c.in-Ok.found.count ((g.S.Source.meaning c.args.source.now).listing p) c.versions.new.versions all
     (c.in-Ok.ensures.value, c.in-Ok.ensures.items)
@@ -28,7 +28,7 @@ returns-in-Ok g c =
     let s = map place_of (take c.args.count c.args.sheet.now) in
     let m = g.S.Source.meaning c.args.source.now in
     let k = row_names c.args.ceiling.now in
-    let p = path_bytes c.checked-path-of.result in
+    let p = path_bytes c.checked_path-of.result in
     let all : 64 ≤ length (replicate 64 c.blank-versions.result) = omega (arith, length-replicate 64 c.blank-versions.result) in
     let j = c.in-Ok.found.count in
     let j0 : j ≡ j - 0 = omega arith in
@@ -38,8 +38,8 @@ returns-in-Ok g c =
     record {
       same = c.in-Ok.ensures.same;
       inside = c.in-Ok.ensures.inside;
-      value = tells_by _ _ c.write-versions.result c.write-versions.new.sheet
-          (ap (λ (q : Bytes). offer_written (ended done) k s (m.listing q)) (sym c.checked-path-of.ensures.value) ∙ ap (offer_written (ended done) k s) a) c.write-versions.ensures.value;
+      value = tells_by _ _ c.write_versions.result c.write_versions.new.sheet
+          (ap (λ (q : Bytes). offer_written (ended done) k s (m.listing q)) (sym c.checked_path-of.ensures.value) ∙ ap (offer_written (ended done) k s) a) c.write_versions.ensures.value;
     }
 
 pub returns-in-Err : goal.returns-in-Err
@@ -49,7 +49,7 @@ returns-in-Err g c =
     let s = map place_of (take n ps) in
     let m = g.S.Source.meaning c.args.source.now in
     let k = row_names c.args.ceiling.now in
-    let p = path_bytes c.checked-path-of.result in
+    let p = path_bytes c.checked_path-of.result in
     let fits : n ≤ length ps = omega arith in
     let short : n ≤ 256 = omega arith in
     let all : 64 ≤ length (replicate 64 c.blank-versions.result) = omega (arith, length-replicate 64 c.blank-versions.result) in
@@ -59,6 +59,6 @@ returns-in-Err g c =
       same = c.in-Err.ensures.same;
       inside = c.in-Err.ensures.inside;
       value = tells_by _ _ _ ps
-          (ap (λ (q : Bytes). offer_written (ended done) k s (m.listing q)) (sym c.checked-path-of.ensures.value) ∙ ap (offer_written (ended done) k s) a)
-          (tells_fault 0 n f c.stop-at.result ps short fits c.stop-at.ensures.after c.stop-at.ensures.refused);
+          (ap (λ (q : Bytes). offer_written (ended done) k s (m.listing q)) (sym c.checked_path-of.ensures.value) ∙ ap (offer_written (ended done) k s) a)
+          (tells_fault 0 n f c.stop_at.result ps short fits c.stop_at.ensures.after c.stop_at.ensures.refused);
     }

@@ -28,8 +28,8 @@ first_left m rows i x s h e =
     at_drop_more (λ (ys : List Row). offers_written m (ended done) (map row_names ys) s) rows i x h
     ∙ ap (λ (y : Row). offer_written (offers_written m (ended done) (map row_names (drop (i + 1) rows))) (row_names y) s (m.listing (row_names y).path)) (sym e)
 
-pub write-offer-requires : goal.write-offer-requires
-write-offer-requires g c =
+pub write_offer-requires : goal.write_offer-requires
+write_offer-requires g c =
     let (short, same, inside, rest) = c.loop-ceiling.invariant in
     let long : 256 ≤ length c.loop-ceiling.sheet = omega (arith, c.loop-ceiling.auto.sheet) in
     ((short, long), all_at (λ x. is_path x.path ≡ true) c.args.ceilings.now c.loop-ceiling.ceiling-index c.ceiling-item.result c.requires.1 c.loop-ceiling-test.true c.ceiling-item.is)
@@ -42,7 +42,7 @@ loop-ceiling-preserved g c =
     let i = c.loop-ceiling.ceiling-index in
     let x = c.ceiling-item.result in
     let s = map place_of (take c.loop-ceiling.places c.loop-ceiling.sheet) in
-    let after = c.write-offer.new.sheet in
+    let after = c.write_offer.new.sheet in
     let t = subst (λ (q : Meaning). Tells (offer_written (ended done) (row_names x) s (q.listing (row_names x).path)) (Ok c.in-Ok.more) after) same c.in-Ok.ensures.value in
     let (few, on) = offer_ok m (offers_written m (ended done) (map row_names (drop (i + 1) rows))) (row_names x) s after c.in-Ok.more t in
     (few, c.in-Ok.ensures.same ∙ same, c.in-Ok.ensures.inside ∙ inside, sym (first_left m rows i x s c.loop-ceiling-test.true c.ceiling-item.is ∙ on) ∙ rest)
@@ -55,7 +55,7 @@ returns-in-Err g c =
     let i = c.loop-ceiling.ceiling-index in
     let x = c.ceiling-item.result in
     let s = map place_of (take c.loop-ceiling.places c.loop-ceiling.sheet) in
-    let after = c.write-offer.new.sheet in
+    let after = c.write_offer.new.sheet in
     let stop = c.in-Err.stop in
     let t = subst (λ (q : Meaning). Tells (offer_written (ended done) (row_names x) s (q.listing (row_names x).path)) (Err stop) after) same c.in-Err.ensures.value in
     record {

@@ -10,14 +10,14 @@ use Rattle.walks.proofs.Telling.{front_long, tells_room}
 use Rattle.lowers.proofs.Offering.{part}
 use Rattle.lowers.proofs.offers.write_version.Goals as goal
 
-pub returns-then-not-is-under : goal.returns-then-not-is-under
-returns-then-not-is-under c =
+pub returns-then-not-is_under : goal.returns-then-not-is_under
+returns-then-not-is_under c =
     let ps = c.args.sheet.now in
     let n = c.args.count in
     let s = map place_of (take n ps) in
     let x = at (row_names c.args.ceiling.now).path (plain_version_bytes c.args.version) in
     let fits : n ≤ length ps = omega arith in
-    let e = ap (λ (b : Bool). written 0 (cond b (x ∷ []) []) s) c.if-not-is-under.ensures.value in
+    let e = ap (λ (b : Bool). written 0 (cond b (x ∷ []) []) s) c.if-not-is_under.ensures.value in
     record { value = tells_room (written 0 (part (row_names c.args.ceiling.now) (plain_version_bytes c.args.version)) s) ps n (omega (arith, ap length (sym e), front_long ps n fits)) fits e }
 
 pub returns-in-Ok : goal.returns-in-Ok
@@ -25,7 +25,7 @@ returns-in-Ok c =
     let s = map place_of (take c.args.count c.args.sheet.now) in
     let x = at (row_names c.args.ceiling.now).path (plain_version_bytes c.args.version) in
     record {
-      value = subst (λ (b : Bool). Tells (if_room (ended done) (written 0 (cond b (x ∷ []) []) s)) (Ok c.in-Ok.written.places) c.write-row.new.sheet) c.if-not-is-under.ensures.value
+      value = subst (λ (b : Bool). Tells (if_room (ended done) (written 0 (cond b (x ∷ []) []) s)) (Ok c.in-Ok.written.places) c.write_row.new.sheet) c.if-not-is_under.ensures.value
           c.in-Ok.ensures.value;
     }
 
@@ -34,6 +34,6 @@ returns-in-Err c =
     let s = map place_of (take c.args.count c.args.sheet.now) in
     let x = at (row_names c.args.ceiling.now).path (plain_version_bytes c.args.version) in
     record {
-      value = subst (λ (b : Bool). Tells (if_room (ended done) (written 0 (cond b (x ∷ []) []) s)) (Err c.in-Err.stop) c.write-row.new.sheet) c.if-not-is-under.ensures.value
+      value = subst (λ (b : Bool). Tells (if_room (ended done) (written 0 (cond b (x ∷ []) []) s)) (Err c.in-Err.stop) c.write_row.new.sheet) c.if-not-is_under.ensures.value
           c.in-Err.ensures.value;
     }

@@ -18,7 +18,7 @@ loop-i-preserved c =
     let i = c.loop-i.i in
     let up : i ≡ (i - 1) + 1 = omega arith in
     version_ok k vs s (i - 1) c.index-versions-i.result (omega arith) c.index-versions-i.is (map place_of (take c.loop-i.places c.loop-i.sheet))
-    (c.loop-i.invariant.1 ∙ ap (sheet_from k vs s) up) c.write-version.new.sheet c.in-Ok.more c.in-Ok.ensures.value
+    (c.loop-i.invariant.1 ∙ ap (sheet_from k vs s) up) c.write_version.new.sheet c.in-Ok.more c.in-Ok.ensures.value
 
 pub returns-in-Err : goal.returns-in-Err
 returns-in-Err c =
@@ -29,7 +29,7 @@ returns-in-Err c =
     let up : i ≡ (i - 1) + 1 = omega arith in
     record {
       value = version_err k vs s (i - 1) c.index-versions-i.result (omega arith) c.index-versions-i.is (map place_of (take c.loop-i.places c.loop-i.sheet))
-          (c.loop-i.invariant.1 ∙ ap (sheet_from k vs s) up) c.write-version.new.sheet c.in-Err.stop c.in-Err.ensures.value;
+          (c.loop-i.invariant.1 ∙ ap (sheet_from k vs s) up) c.write_version.new.sheet c.in-Err.stop c.in-Err.ensures.value;
     }
 
 pub returns : goal.returns

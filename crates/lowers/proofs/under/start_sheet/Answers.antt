@@ -15,8 +15,8 @@ returns g c =
     let some : 0 < length ps = omega arith in
     let e = first_place (path_bytes c.args.main.now) ps c.main_row.result c.main_row.ensures.value some in
     record {
-      same = c.write-offers.ensures.same;
-      inside = c.write-offers.ensures.inside;
-      value = tells_by _ _ c.write-offers.result c.write-offers.new.sheet
-          (ap (λ (s : List R.Place). offers_written (g.S.Source.meaning c.args.source.now) (ended done) (map row_names c.args.ceilings.now) s) (sym e)) c.write-offers.ensures.value;
+      same = c.write_offers.ensures.same;
+      inside = c.write_offers.ensures.inside;
+      value = tells_by _ _ c.write_offers.result c.write_offers.new.sheet
+          (ap (λ (s : List R.Place). offers_written (g.S.Source.meaning c.args.source.now) (ended done) (map row_names c.args.ceilings.now) s) (sym e)) c.write_offers.ensures.value;
     }

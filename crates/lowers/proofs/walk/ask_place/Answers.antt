@@ -43,15 +43,15 @@ checked-of-requires g c =
     subst (λ (x : ModuleVersion). is_module_version x ≡ true) (sym (row_at ps n i c.index-sheet-at.result lt fits))
     (c.requires.1 i (get_or (map place_of (take n ps)) i blank_place) one (reads (lower_ask w (map row_names c.args.ceilings.now)) i (map place_of (take n ps)) (in_front ps n i lt fits)))
 
-pub slice-bounds-write-edges-end : goal.slice-bounds-write-edges-end
-slice-bounds-write-edges-end g c =
+pub slice_bounds-write_edges-end : goal.slice_bounds-write_edges-end
+slice_bounds-write_edges-end g c =
     let x = names_of c.checked-of.result in
     let all : 64 ≤ length (replicate 64 c.blank-rows.result) = omega (arith, length-replicate 64 c.blank-rows.result) in
     found_fits row_names blank (length (replicate 64 c.blank-rows.result)) c.in-Ok.found.count ((g.S.Source.meaning c.args.source.now).requirements x) c.requirements.new.rows all
     (c.in-Ok.ensures.value, c.in-Ok.ensures.items)
 
-pub write-edges-requires : goal.write-edges-requires
-write-edges-requires g c =
+pub write_edges-requires : goal.write_edges-requires
+write_edges-requires g c =
     let n = c.args.count in
     let rows = c.requirements.new.rows in
     let few : n ≤ 256 = omega arith in
@@ -90,13 +90,13 @@ returns-in-Ok g c =
     record {
       same = c.in-Ok.ensures.same;
       inside = c.in-Ok.ensures.inside;
-      value = tells_by _ _ c.write-edges.result c.write-edges.new.sheet (here_found w cs i s inside_sheet x e under ys a) c.write-edges.ensures.value;
-      learned = learned_list w cs i s inside_sheet x e under c.args.learned.now c.write-edges.new.learned c.requires.3 in_rows ys a few c.write-edges.ensures.marks
-          c.write-edges.result c.write-edges.new.sheet c.write-edges.ensures.value c.write-edges.ensures.edges;
+      value = tells_by _ _ c.write_edges.result c.write_edges.new.sheet (here_found w cs i s inside_sheet x e under ys a) c.write_edges.ensures.value;
+      learned = learned_list w cs i s inside_sheet x e under c.args.learned.now c.write_edges.new.learned c.requires.3 in_rows ys a few c.write_edges.ensures.marks
+          c.write_edges.result c.write_edges.new.sheet c.write_edges.ensures.value c.write_edges.ensures.edges;
     }
 
-pub returns-then-is-missing : goal.returns-then-is-missing
-returns-then-is-missing g c =
+pub returns-then-is_missing : goal.returns-then-is_missing
+returns-then-is_missing g c =
     let ps = c.args.sheet.now in
     let n = c.args.count in
     let i = c.args.at in
@@ -115,7 +115,7 @@ returns-then-is-missing g c =
     let all : 64 ≤ length (replicate 64 c.blank-rows.result) = omega (arith, length-replicate 64 c.blank-rows.result) in
     let f = fault_of c.in-Err.fault in
     let a = fault_told row_names blank (length (replicate 64 c.blank-rows.result)) f (m.requirements x) c.requirements.new.rows all (c.in-Err.ensures.value, c.in-Err.ensures.items) in
-    let t = sym c.if-is-missing.ensures.value in
+    let t = sym c.if-is_missing.ensures.value in
     let wide : i < length c.args.learned.now.marked = omega (arith, c.args.learned.now.wide) in
     record {
       same = c.in-Err.ensures.same;
@@ -124,8 +124,8 @@ returns-then-is-missing g c =
       learned = knows_bad w cs s c.args.learned.now c.mark.new.self i x c.requires.3 there (bad_missing w cs x f a t) wide c.mark.ensures.marks c.mark.ensures.edges;
     }
 
-pub returns-else-is-missing : goal.returns-else-is-missing
-returns-else-is-missing g c =
+pub returns-else-is_missing : goal.returns-else-is_missing
+returns-else-is_missing g c =
     let ps = c.args.sheet.now in
     let n = c.args.count in
     let i = c.args.at in
@@ -146,7 +146,7 @@ returns-else-is-missing g c =
     record {
       same = c.in-Err.ensures.same;
       inside = c.in-Err.ensures.inside;
-      value = tells_by _ _ _ ps (here_fault w cs i s inside_sheet x e under f a (sym c.if-is-missing.ensures.value))
-          (tells_fault i n f c.stop-at.result ps short fits c.stop-at.ensures.after c.stop-at.ensures.refused);
+      value = tells_by _ _ _ ps (here_fault w cs i s inside_sheet x e under f a (sym c.if-is_missing.ensures.value))
+          (tells_fault i n f c.stop_at.result ps short fits c.stop_at.ensures.after c.stop_at.ensures.refused);
       learned = tt;
     }

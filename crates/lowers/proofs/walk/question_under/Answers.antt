@@ -22,8 +22,8 @@ row_at ps n i p l h = sym (ap (λ (q : R.Place). q.row) (read_at ps n i p l h))
 in_front : (ps : List Place) (n i : ℕ) → i < n → n ≤ length ps → i < length (map place_of (take n ps))
 in_front ps n i l h = omega (arith, front_long ps n h)
 
-pub returns-then-is-above : goal.returns-then-is-above
-returns-then-is-above g c =
+pub returns-then-is_above : goal.returns-then-is_above
+returns-then-is_above g c =
     let ps = c.args.sheet.now in
     let n = c.args.count in
     let i = c.args.at in
@@ -36,7 +36,7 @@ returns-then-is-above g c =
     let short : length s ≤ 256 = omega (arith, front_long ps n fits) in
     let x = row_names (get_or ps i c.index-sheet-at.result).row in
     let e = row_at ps n i c.index-sheet-at.result lt fits in
-    let t = sym c.if-is-above.ensures.value in
+    let t = sym c.if-is_above.ensures.value in
     let wide : i < length c.args.learned.now.marked = omega (arith, c.args.learned.now.wide) in
     record {
       same = refl;
@@ -45,8 +45,8 @@ returns-then-is-above g c =
       learned = knows_bad w cs s c.args.learned.now c.mark.new.self i x c.requires.2 (row_here w cs i s inside_sheet x e) (bad_above w cs x t) wide c.mark.ensures.marks c.mark.ensures.edges;
     }
 
-pub ask-place-requires : goal.ask-place-requires
-ask-place-requires g c =
+pub ask_place-requires : goal.ask_place-requires
+ask_place-requires g c =
     let ps = c.args.sheet.now in
     let n = c.args.count in
     let i = c.args.at in
@@ -57,4 +57,4 @@ ask-place-requires g c =
     let fits : n ≤ length ps = omega arith in
     let x = row_names (get_or ps i c.index-sheet-at.result).row in
     let there = row_here w cs i s (in_front ps n i lt fits) x (row_at ps n i c.index-sheet-at.result lt fits) in
-    (c.requires.0, c.requires.1, (λ y h. let same : x ≡ y = cc in subst (λ (z : ModuleVersion). is_above cs z ≡ false) same (sym c.if-is-above.ensures.value)), c.requires.2)
+    (c.requires.0, c.requires.1, (λ y h. let same : x ≡ y = cc in subst (λ (z : ModuleVersion). is_above cs z ≡ false) same (sym c.if-is_above.ensures.value)), c.requires.2)

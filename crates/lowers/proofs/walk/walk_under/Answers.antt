@@ -15,8 +15,8 @@ use Rattle.lowers.specs.Learned.{Knows}
 use Rattle.lowers.proofs.Asking.{asks_formed}
 use Rattle.lowers.proofs.walk.walk_under.Goals as goal
 
-pub question-under-requires : goal.question-under-requires
-question-under-requires g c =
+pub question_under-requires : goal.question_under-requires
+question_under-requires g c =
     let (one, low, high, formed, same, inside, knows, walks) = c.loop-at.invariant in
     let cs = map row_names c.args.ceilings.now in
     let s = map place_of (take c.loop-at.places c.loop-at.sheet) in
@@ -34,7 +34,7 @@ loop-at-preserved g c =
     let m = g.S.Source.meaning c.args.source.now in
     let cs = map row_names c.args.ceilings.now in
     let s = map place_of (take n ps) in
-    let after = c.question-under.new.sheet in
+    let after = c.question_under.new.sheet in
     let more = c.in-Ok.more in
     let fits : n ≤ length ps = omega (arith, c.loop-at.auto.sheet) in
     let long = front_long ps n fits in
@@ -43,7 +43,7 @@ loop-at-preserved g c =
     let t : Tells (questioned (lower_ask (seen_by main m) cs) (ended done) i s (slice_get s i)) (Ok more) after =
     subst (λ (q : Meaning). Tells (questioned (lower_ask (seen_by main q) cs) (ended done) i s (slice_get s i)) (Ok more) after) same c.in-Ok.ensures.value in
     let (short, grown, next, turned) = goes_on (lower_ask (seen_by main m) cs) i s in_sheet room after (asks_formed (seen_by main m) cs (g.S.Source.lawful c.args.source.now)) formed more t in
-    let known = subst (λ (q : Meaning). Knows (seen_by main q) cs (map place_of (take more after)) c.question-under.new.learned (i + 1)) same c.in-Ok.ensures.learned in
+    let known = subst (λ (q : Meaning). Knows (seen_by main q) cs (map place_of (take more after)) c.question_under.new.learned (i + 1)) same c.in-Ok.ensures.learned in
     (omega arith, omega arith, short, next, c.in-Ok.ensures.same ∙ same, c.in-Ok.ensures.inside ∙ inside, known, turned ∙ walks)
 
 pub returns-in-Err : goal.returns-in-Err
@@ -56,7 +56,7 @@ returns-in-Err g c =
     let m = g.S.Source.meaning c.args.source.now in
     let cs = map row_names c.args.ceilings.now in
     let s = map place_of (take n ps) in
-    let after = c.question-under.new.sheet in
+    let after = c.question_under.new.sheet in
     let stop = c.in-Err.stop in
     let fits : n ≤ length ps = omega (arith, c.loop-at.auto.sheet) in
     let long = front_long ps n fits in

@@ -3,8 +3,8 @@ use Rattle.std.proofs.Common.{rules}
 use Rattle.lexer.proofs.Tested.{fails_here, passes_here, passes_all}
 use Rattle.manifest.proofs.lines.has_good_bytes.Goals as goal
 
-pub returns-then-not-is-good-byte : goal.returns-then-not-is-good-byte
-returns-then-not-is-good-byte c = search (rules, fails_here)
+pub returns-then-not-is_good_byte : goal.returns-then-not-is_good_byte
+returns-then-not-is_good_byte c = search (rules, fails_here)
 
 pub loop-b-preserved : goal.loop-b-preserved
 loop-b-preserved c = search (rules, passes_here)

@@ -15,8 +15,8 @@ use Rattle.manifest.proofs.reading.read_text.Goals as goal
 pub returns-in-Ok : goal.returns-in-Ok
 returns-in-Ok c =
     let p = c.in-Ok.progress in
-    let rs = c.read-lines.new.required in
-    let es = c.read-lines.new.excluded in
+    let rs = c.read_lines.new.required in
+    let es = c.read_lines.new.excluded in
     let most = c.args.most in
     let h = c.in-Ok.ensures.items in
     let block = option_map verb_told p.block in

@@ -37,7 +37,7 @@ returns-in-Ok c =
     let x0 : m.excluded - 0 ≡ m.excluded = omega arith in
     record {
       value = λ s.
-          (λ i. accepts (record { main = path_bytes (c.of-main.ensures.path i); rows = c.of-main.ensures.value i; exclusions = c.exclusions-of-exclusions.ensures.value i }))
+          (λ i. accepts (record { main = path_bytes (c.of-main.ensures.path i); rows = c.of-main.ensures.value i; exclusions = c.exclusions_of-exclusions.ensures.value i }))
           ∙ taken_over s (reading 256 text) (path_bytes m.main) m.required m.excluded (m.required - 0) (m.excluded - 0) (replicate 256 b) c.read.new.required (replicate 32 d) c.read.new.excluded
           (h.value ∙ ap counted is)
           (subst (λ (r : Reading). Left (replicate 256 b) c.read.new.required (require_rows r)) is h.items.0)

@@ -20,13 +20,13 @@ returns-in-Load g c =
     let before = slices_of c.args.sheet.now c.args.list.now in
     let t = state_of c.load.new.self in
     let is = ap (call_of c.args.texts.now n) c.in-Load.is ∙ ap (λ text. R.load (reading 256 text)) (sym c.of.ensures.value) in
-    let made = change_made m s (R.load (reading 256 c.of.result.now)) (call_of c.args.texts.now n c.args.call.now) c.load.result (reply_told c.reply-of-change.result) t before is c.load.ensures.value (c.reply-of-change.ensures.value t) refl in
+    let made = change_made m s (R.load (reading 256 c.of.result.now)) (call_of c.args.texts.now n c.args.call.now) c.load.result (reply_told c.reply_of_change.result) t before is c.load.ensures.value (c.reply_of_change.ensures.value t) refl in
     record {
       value = made.value;
       after = made.after;
       items = made.items;
       same = ap g.S.Source.meaning c.load.ensures.same;
-      law = goes_on m (g.S.Source.lawful p.layer.below) s (call_of c.args.texts.now n c.args.call.now) (reply_told c.reply-of-change.result) t before before made.value made.after made.items;
+      law = goes_on m (g.S.Source.lawful p.layer.below) s (call_of c.args.texts.now n c.args.call.now) (reply_told c.reply_of_change.result) t before before made.value made.after made.items;
     }
 
 pub returns-in-Raise : goal.returns-in-Raise
@@ -38,13 +38,13 @@ returns-in-Raise g c =
     let before = slices_of c.args.sheet.now c.args.list.now in
     let t = state_of c.raise.new.self in
     let is = ap (call_of c.args.texts.now n) c.in-Raise.is in
-    let made = change_made m s (R.raise (names_of c.in-Raise.of)) (call_of c.args.texts.now n c.args.call.now) c.raise.result (reply_told c.reply-of-change-in-Raise.result) t before is c.raise.ensures.value (c.reply-of-change-in-Raise.ensures.value t) refl in
+    let made = change_made m s (R.raise (names_of c.in-Raise.of)) (call_of c.args.texts.now n c.args.call.now) c.raise.result (reply_told c.reply_of_change-in-Raise.result) t before is c.raise.ensures.value (c.reply_of_change-in-Raise.ensures.value t) refl in
     record {
       value = made.value;
       after = made.after;
       items = made.items;
       same = ap g.S.Source.meaning c.raise.ensures.same;
-      law = goes_on m (g.S.Source.lawful p.layer.below) s (call_of c.args.texts.now n c.args.call.now) (reply_told c.reply-of-change-in-Raise.result) t before before made.value made.after made.items;
+      law = goes_on m (g.S.Source.lawful p.layer.below) s (call_of c.args.texts.now n c.args.call.now) (reply_told c.reply_of_change-in-Raise.result) t before before made.value made.after made.items;
     }
 
 pub returns-in-Drop : goal.returns-in-Drop
@@ -54,15 +54,15 @@ returns-in-Drop g c =
     let s = state_of p in
     let n = lent c.args.sheet.now c.args.list.now in
     let before = slices_of c.args.sheet.now c.args.list.now in
-    let t = state_of c.drop-row.new.self in
+    let t = state_of c.drop_row.new.self in
     let is = ap (call_of c.args.texts.now n) c.in-Drop.is in
-    let made = change_made m s (R.drop (path_bytes c.in-Drop.path)) (call_of c.args.texts.now n c.args.call.now) c.drop-row.result (reply_told c.reply-of-change-in-Drop.result) t before is c.drop-row.ensures.value (c.reply-of-change-in-Drop.ensures.value t) refl in
+    let made = change_made m s (R.drop (path_bytes c.in-Drop.path)) (call_of c.args.texts.now n c.args.call.now) c.drop_row.result (reply_told c.reply_of_change-in-Drop.result) t before is c.drop_row.ensures.value (c.reply_of_change-in-Drop.ensures.value t) refl in
     record {
       value = made.value;
       after = made.after;
       items = made.items;
-      same = ap g.S.Source.meaning c.drop-row.ensures.same;
-      law = goes_on m (g.S.Source.lawful p.layer.below) s (call_of c.args.texts.now n c.args.call.now) (reply_told c.reply-of-change-in-Drop.result) t before before made.value made.after made.items;
+      same = ap g.S.Source.meaning c.drop_row.ensures.same;
+      law = goes_on m (g.S.Source.lawful p.layer.below) s (call_of c.args.texts.now n c.args.call.now) (reply_told c.reply_of_change-in-Drop.result) t before before made.value made.after made.items;
     }
 
 pub returns-in-Exclude : goal.returns-in-Exclude
@@ -74,13 +74,13 @@ returns-in-Exclude g c =
     let before = slices_of c.args.sheet.now c.args.list.now in
     let t = state_of c.exclude.new.self in
     let is = ap (call_of c.args.texts.now n) c.in-Exclude.is in
-    let made = change_made m s (R.exclude (names_of c.in-Exclude.of)) (call_of c.args.texts.now n c.args.call.now) c.exclude.result (reply_told c.reply-of-change-in-Exclude.result) t before is c.exclude.ensures.value (c.reply-of-change-in-Exclude.ensures.value t) refl in
+    let made = change_made m s (R.exclude (names_of c.in-Exclude.of)) (call_of c.args.texts.now n c.args.call.now) c.exclude.result (reply_told c.reply_of_change-in-Exclude.result) t before is c.exclude.ensures.value (c.reply_of_change-in-Exclude.ensures.value t) refl in
     record {
       value = made.value;
       after = made.after;
       items = made.items;
       same = ap g.S.Source.meaning c.exclude.ensures.same;
-      law = goes_on m (g.S.Source.lawful p.layer.below) s (call_of c.args.texts.now n c.args.call.now) (reply_told c.reply-of-change-in-Exclude.result) t before before made.value made.after made.items;
+      law = goes_on m (g.S.Source.lawful p.layer.below) s (call_of c.args.texts.now n c.args.call.now) (reply_told c.reply_of_change-in-Exclude.result) t before before made.value made.after made.items;
     }
 
 pub returns-in-List : goal.returns-in-List
@@ -93,11 +93,11 @@ returns-in-List g c =
     let t = state_of c.list.new.self in
     let o = counted_as c.list.result t c.list.new.sheet c.list.new.list in
     let is = ap (call_of c.args.texts.now n) c.in-List.is in
-    let made = written_made m s (R.list n) (call_of c.args.texts.now n c.args.call.now) o (reply_told c.reply-of-counts.result) before is c.list.ensures.value c.reply-of-counts.ensures.value refl in
+    let made = written_made m s (R.list n) (call_of c.args.texts.now n c.args.call.now) o (reply_told c.reply_of_counts.result) before is c.list.ensures.value c.reply_of_counts.ensures.value refl in
     record {
       value = made.value;
       after = made.after;
       items = made.items;
       same = c.list.ensures.same;
-      law = goes_on m (g.S.Source.lawful p.layer.below) s (call_of c.args.texts.now n c.args.call.now) (reply_told c.reply-of-counts.result) t before o.slices made.value made.after made.items;
+      law = goes_on m (g.S.Source.lawful p.layer.below) s (call_of c.args.texts.now n c.args.call.now) (reply_told c.reply_of_counts.result) t before o.slices made.value made.after made.items;
     }

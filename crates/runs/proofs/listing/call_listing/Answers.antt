@@ -44,11 +44,11 @@ returns-in-Lower g c =
     let o = counted_as c.lower.result t c.lower.new.sheet c.lower.new.list in
     let of = c.in-Lower.of in
     let d = listing_call_of texts n c.args.asked.now in
-    let made = written_made m s (R.lower (path_bytes of.path) (version_bytes of.version) n) d o (reply_told c.reply-of-counts.result) before (ap (listing_call_of texts n) c.in-Lower.is) c.lower.ensures.value c.reply-of-counts.ensures.value refl in
+    let made = written_made m s (R.lower (path_bytes of.path) (version_bytes of.version) n) d o (reply_told c.reply_of_counts.result) before (ap (listing_call_of texts n) c.in-Lower.is) c.lower.ensures.value c.reply_of_counts.ensures.value refl in
     record {
       value = made.value;
       after = made.after;
       items = made.items;
       same = c.lower.ensures.same;
-      law = goes_on m (g.S.Source.lawful p.layer.below) s d (reply_told c.reply-of-counts.result) t before o.slices made.value made.after made.items;
+      law = goes_on m (g.S.Source.lawful p.layer.below) s d (reply_told c.reply_of_counts.result) t before o.slices made.value made.after made.items;
     }

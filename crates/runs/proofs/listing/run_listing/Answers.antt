@@ -28,10 +28,10 @@ loop-i-preserved g c =
     let in_list : i < length calls = omega (arith, low.0, c.loop-i-test.true) in
     let room : i < length c.loop-i.replies = omega (arith, low.1, c.loop-i-test.true, c.loop-i.auto.replies) in
     let lengths : here ≡ n = λ j. record { sheet = c.loop-i.auto.sheet j; list = c.loop-i.auto.list j } in
-    let made = c.call-listing-reply.ensures in
+    let made = c.call_listing-reply.ensures in
     ran_more (listing_call_of c.args.texts.now) (pile_of meaning first) (state_of first) n calls (slices_of c.args.sheet.now c.args.list.now) c.args.replies.now
-    i (pile_of meaning c.loop-i.project) (pile_of meaning c.call-listing-reply.new.project) (state_of c.loop-i.project) (state_of c.call-listing-reply.new.project)
-    (slices_of c.loop-i.sheet c.loop-i.list) (slices_of c.call-listing-reply.new.sheet c.call-listing-reply.new.list) c.loop-i.replies c.call-listing-reply.result here c.index-calls-i.result
+    i (pile_of meaning c.loop-i.project) (pile_of meaning c.call_listing-reply.new.project) (state_of c.loop-i.project) (state_of c.call_listing-reply.new.project)
+    (slices_of c.loop-i.sheet c.loop-i.list) (slices_of c.call_listing-reply.new.sheet c.call_listing-reply.new.list) c.loop-i.replies c.call_listing-reply.result here c.index-calls-i.result
     c.loop-i.invariant lengths in_list c.index-calls-i.is room made.same made.value made.after made.items
 
 pub returns : goal.returns

@@ -10,8 +10,8 @@ use Rattle.shelf.specs.Records.{named, rows_at}
 use Rattle.shelf.proofs.Paired.{rows_none, rows_more, row_size, still_room, one_copied, all_copied, blanks_behind}
 use Rattle.shelf.proofs.reading.copy_rows.Goals as goal
 
-pub row-of-requires : goal.row-of-requires
-row-of-requires c =
+pub row_of-requires : goal.row_of-requires
+row_of-requires c =
     let p = pair_cut_of c.in-Some.pair in
     let formed : All (λ r. is_module_version r ≡ true) (named p.pair ∷ rows_at (pairs_in p.after))
     = subst (All (λ r. is_module_version r ≡ true)) (rows_more c.loop-pair.rest.now p c.in-Some.ensures.value) c.loop-pair.invariant.2 in
@@ -35,18 +35,18 @@ loop-pair-preserved c =
     let room = still_room row_names n out (rows_at (pairs_in c.args.bytes.now)) (rows_at (pairs_in c.loop-pair.rest.now)) c.loop-pair.invariant.0 c.loop-pair.invariant.1
     (named p.pair) (rows_at (pairs_in p.after)) more (omega (arith, c.requires.0, c.loop-pair.auto.rows)) in
     let formed : All (λ r. is_module_version r ≡ true) (named p.pair ∷ rows_at (pairs_in p.after)) = subst (All (λ r. is_module_version r ≡ true)) more c.loop-pair.invariant.2 in (
-      omega (arith, room, length-set out n c.row-of.result),
+      omega (arith, room, length-set out n c.row_of.result),
       one_copied row_names n out (rows_at (pairs_in c.args.bytes.now)) (rows_at (pairs_in c.loop-pair.rest.now)) c.loop-pair.invariant.0 c.loop-pair.invariant.1
-          c.row-of.result (rows_at (pairs_in p.after)) (more ∙ ap (λ (x : ModuleVersion). x ∷ rows_at (pairs_in p.after)) (sym c.row-of.ensures.value)) room,
+          c.row_of.result (rows_at (pairs_in p.after)) (more ∙ ap (λ (x : ModuleVersion). x ∷ rows_at (pairs_in p.after)) (sym c.row_of.ensures.value)) room,
       formed.1,
     )
 
 pub returns : goal.returns
 returns c =
     let all = all_copied row_names c.loop-pair.count c.loop-pair.rows (rows_at (pairs_in c.args.bytes.now)) (rows_at (pairs_in c.loop-pair.rest.now)) c.loop-pair.invariant.0 c.loop-pair.invariant.1
-    (rows_none c.loop-pair.rest.now c.in-default.ensures.value) in
+    (rows_none c.loop-pair.rest.now c.in_default.ensures.value) in
     record {
       value = all.0;
-      items = blanks_behind row_names (length c.args.rows.now) c.loop-pair.count c.loop-pair.rows c.blank-from.new.items c.blank.result (rows_at (pairs_in c.args.bytes.now))
-          c.blank-from.ensures.items c.blank.ensures all.0 all.1 c.loop-pair.auto.rows;
+      items = blanks_behind row_names (length c.args.rows.now) c.loop-pair.count c.loop-pair.rows c.blank_from.new.items c.blank.result (rows_at (pairs_in c.args.bytes.now))
+          c.blank_from.ensures.items c.blank.ensures all.0 all.1 c.loop-pair.auto.rows;
     }

@@ -19,19 +19,19 @@ loop-pair-preserved c =
     let p = pair_cut_of c.in-Some.pair in
     c.loop-pair.invariant
     ∙ ap (λ qs. option_map record_rows (first_of is_record_of x (records qs))) (pairs_some c.loop-pair.rest.now p c.in-Some.ensures.value)
-    ∙ record_later x p.pair (pairs_in p.after) (sym c.if-is-head-of.ensures.value)
+    ∙ record_later x p.pair (pairs_in p.after) (sym c.if-is_head_of.ensures.value)
 
-pub returns-then-is-head-of : goal.returns-then-is-head-of
-returns-then-is-head-of c =
+pub returns-then-is_head_of : goal.returns-then-is_head_of
+returns-then-is_head_of c =
     let x = names_of c.args.of.now in
     let p = pair_cut_of c.in-Some.pair in
     record {
       value = sym (c.loop-pair.invariant
           ∙ ap (λ qs. option_map record_rows (first_of is_record_of x (records qs))) (pairs_some c.loop-pair.rest.now p c.in-Some.ensures.value)
-          ∙ record_here x p.pair (pairs_in p.after) (sym c.if-is-head-of.ensures.value));
+          ∙ record_here x p.pair (pairs_in p.after) (sym c.if-is_head_of.ensures.value));
     }
 
 pub returns : goal.returns
 returns c =
     let x = names_of c.args.of.now in
-    record { value = sym (c.loop-pair.invariant ∙ ap (λ qs. option_map record_rows (first_of is_record_of x (records qs))) (pairs_none c.loop-pair.rest.now c.in-default.ensures.value)) }
+    record { value = sym (c.loop-pair.invariant ∙ ap (λ qs. option_map record_rows (first_of is_record_of x (records qs))) (pairs_none c.loop-pair.rest.now c.in_default.ensures.value)) }

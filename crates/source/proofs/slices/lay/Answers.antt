@@ -17,6 +17,6 @@ returns g c =
     let end : c.loop-i.i ≡ c.min-count.result = omega arith in
     let copied : take c.min-count.result c.loop-i.items ≡ take c.min-count.result c.args.others.now = ap (λ k. take k c.loop-i.items) (sym end) ∙ c.loop-i.invariant ∙ ap (λ k. take k c.args.others.now) end in
     record {
-      items = laid c.args.blank c.args.others.now c.loop-i.items c.blank-from.new.items (length c.args.items.now) c.min-count.result c.loop-i.auto.items c.min-count.ensures copied
-          c.blank-from.ensures.items;
+      items = laid c.args.blank c.args.others.now c.loop-i.items c.blank_from.new.items (length c.args.items.now) c.min-count.result c.loop-i.auto.items c.min-count.ensures copied
+          c.blank_from.ensures.items;
     }

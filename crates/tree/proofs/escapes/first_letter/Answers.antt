@@ -7,10 +7,10 @@ use Rattle.tree.proofs.escapes.first_letter.Goals as goal
 pub returns-then-byte-eq33 : goal.returns-then-byte-eq33
 returns-then-byte-eq33 c = record { value = c.behind_mark.ensures.value ∙ sym (letter_is c.args.bytes.now _ (search rules) refl ∙ cond-true _ _ _ (eq-eqb _ _ c.if-byte-eq33.true)) }
 
-pub returns-then-is-upper : goal.returns-then-is-upper
-returns-then-is-upper c =
-    record { value = sym (letter_is c.args.bytes.now _ (search rules) refl ∙ cond-false _ _ _ (ne_eqb _ _ c.if-byte-eq33.false) ∙ cond-true _ _ _ (sym c.if-is-upper.ensures.value)) }
+pub returns-then-is_upper : goal.returns-then-is_upper
+returns-then-is_upper c =
+    record { value = sym (letter_is c.args.bytes.now _ (search rules) refl ∙ cond-false _ _ _ (ne_eqb _ _ c.if-byte-eq33.false) ∙ cond-true _ _ _ (sym c.if-is_upper.ensures.value)) }
 
-pub returns-else-is-upper : goal.returns-else-is-upper
-returns-else-is-upper c =
-    record { value = sym (letter_is c.args.bytes.now _ (search rules) refl ∙ cond-false _ _ _ (ne_eqb _ _ c.if-byte-eq33.false) ∙ cond-false _ _ _ (sym c.if-is-upper.ensures.value)) }
+pub returns-else-is_upper : goal.returns-else-is_upper
+returns-else-is_upper c =
+    record { value = sym (letter_is c.args.bytes.now _ (search rules) refl ∙ cond-false _ _ _ (ne_eqb _ _ c.if-byte-eq33.false) ∙ cond-false _ _ _ (sym c.if-is_upper.ensures.value)) }

@@ -5,4 +5,4 @@ use Rattle.tree.proofs.escapes.strip.Goals as goal
 use Rattle.std.proofs.lemmas.Bool.Decides.{Decides-eqb}
 
 pub returns : goal.returns
-returns c = record { value = behind_told c.args.bytes.now c.args.text.now _ (strip_prefix_is Decides-eqb c.args.bytes.now c.args.text.now _ c.strip-prefix.ensures.cases) }
+returns c = record { value = behind_told c.args.bytes.now c.args.text.now _ (strip_prefix_is Decides-eqb c.args.bytes.now c.args.text.now _ c.strip_prefix.ensures.cases) }

@@ -5,4 +5,4 @@ use Rattle.tree.proofs.filenames.strip_ending.Goals as goal
 use Rattle.std.proofs.lemmas.Bool.Decides.{Decides-eqb}
 
 pub returns : goal.returns
-returns c = record { value = before_told c.args.bytes.now c.args.ending.now _ (strip_suffix_is Decides-eqb c.args.bytes.now c.args.ending.now _ c.strip-suffix.ensures.cases) }
+returns c = record { value = before_told c.args.bytes.now c.args.ending.now _ (strip_suffix_is Decides-eqb c.args.bytes.now c.args.ending.now _ c.strip_suffix.ensures.cases) }

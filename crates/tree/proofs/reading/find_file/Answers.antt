@@ -22,18 +22,18 @@ loop-file-preserved c =
     let p = pair_cut_of c.in-Some.file in
     c.loop-file.invariant
     ∙ ap (λ qs. option_map file_body (first_of is_file_of (names_of m) qs)) (pairs_some c.loop-file.rest.now p c.in-Some.ensures.value)
-    ∙ file_later (names_of m) (and_from (is_path (names_of m).path) (is_version (names_of m).version) m.path.ok m.version.ok) p.pair (pairs_in p.after) (sym c.if-is-named.ensures.value)
+    ∙ file_later (names_of m) (and_from (is_path (names_of m).path) (is_version (names_of m).version) m.path.ok m.version.ok) p.pair (pairs_in p.after) (sym c.if-is_named.ensures.value)
 
-pub returns-then-is-named : goal.returns-then-is-named
-returns-then-is-named c =
+pub returns-then-is_named : goal.returns-then-is_named
+returns-then-is_named c =
     let m = c.args.of.now in
     let p = pair_cut_of c.in-Some.file in
     record {
       value = sym (c.loop-file.invariant
           ∙ ap (λ qs. option_map file_body (first_of is_file_of (names_of m) qs)) (pairs_some c.loop-file.rest.now p c.in-Some.ensures.value)
-          ∙ file_here (names_of m) (and_from (is_path (names_of m).path) (is_version (names_of m).version) m.path.ok m.version.ok) p.pair (pairs_in p.after) (sym c.if-is-named.ensures.value));
+          ∙ file_here (names_of m) (and_from (is_path (names_of m).path) (is_version (names_of m).version) m.path.ok m.version.ok) p.pair (pairs_in p.after) (sym c.if-is_named.ensures.value));
     }
 
 pub returns : goal.returns
 returns c =
-    record { value = sym (c.loop-file.invariant ∙ ap (λ qs. option_map file_body (first_of is_file_of (names_of c.args.of.now) qs)) (pairs_none c.loop-file.rest.now c.in-default.ensures.value)) }
+    record { value = sym (c.loop-file.invariant ∙ ap (λ qs. option_map file_body (first_of is_file_of (names_of c.args.of.now) qs)) (pairs_none c.loop-file.rest.now c.in_default.ensures.value)) }

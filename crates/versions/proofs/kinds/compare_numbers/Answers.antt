@@ -9,5 +9,5 @@ returns-in-Equal c =
     let b = c.args.b.now in
     cmp_dictionary a b c.cmp-in-Equal.result c.cmp-in-Equal.ensures ∙ sym (numbers_as_long a b c.requires.0 c.requires.1 c.in-Equal.ensures)
 
-pub returns-in-default : goal.returns-in-default
-returns-in-default c = numbers_by_length c.args.a.now c.args.b.now c.requires.0 c.requires.1 c.cmp.result c.in-default.not-Equal c.cmp.ensures
+pub returns-in_default : goal.returns-in_default
+returns-in_default c = numbers_by_length c.args.a.now c.args.b.now c.requires.0 c.requires.1 c.cmp.result c.in_default.not-Equal c.cmp.ensures

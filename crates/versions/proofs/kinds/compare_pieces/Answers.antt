@@ -8,7 +8,7 @@ pub returns-in-true-true : goal.returns-in-true-true
 returns-in-true-true c =
     let a = as_number c.args.a.now (sym c.in-true-true.ensures) in
     let b = as_number c.args.b.now (sym c.in-true-true.ensures') in
-    c.compare-numbers.ensures ∙ sym (ap₂ identifier_order a b)
+    c.compare_numbers.ensures ∙ sym (ap₂ identifier_order a b)
 
 pub returns-in-true-false : goal.returns-in-true-false
 returns-in-true-false c =

@@ -13,7 +13,7 @@ pub loop-b-preserved : goal.loop-b-preserved
 loop-b-preserved c =
     let bs = c.args.piece.now in
     let i = c.loop-b.b-index in
-    elim c.match-kind-of-byte.branch [
+    elim c.match-kind_of_byte.branch [
       | in-Number w ↦ subst (λ k. Reads k (drop (i + 1) bs) (spelt bs)) (sym w.kind-is) (read_number bs i c.loop-b-test.true c.loop-b.kind (spelt bs) c.loop-b.invariant w.in-Number.ensures)
       | in-Word w ↦ subst (λ k. Reads k (drop (i + 1) bs) (spelt bs)) (sym w.kind-is) (read_word bs i c.loop-b-test.true c.loop-b.kind (spelt bs) c.loop-b.invariant w.in-Word.ensures)
     ]

@@ -2,33 +2,33 @@ use Rattle.std.proofs.Common.{sym, ◌∙◌}
 use Rattle.versions.proofs.Releases.{no_number, last_dash, last_over, last_dot}
 use Rattle.versions.proofs.texts.is_release.Goals as goal
 
-pub returns-in-default : goal.returns-in-default
-returns-in-default c = sym (c.in-default.ensures 1)
+pub returns-in_default : goal.returns-in_default
+returns-in_default c = sym (c.in_default.ensures 1)
 
-pub returns-in-default-behind-number : goal.returns-in-default-behind-number
-returns-in-default-behind-number c = sym (c.in-Some.ensures 2 ∙ c.in-default-behind-number.ensures 0)
+pub returns-in_default-behind_number : goal.returns-in_default-behind_number
+returns-in_default-behind_number c = sym (c.in-Some.ensures 2 ∙ c.in_default-behind_number.ensures 0)
 
-pub returns-then-not-is-number : goal.returns-then-not-is-number
-returns-then-not-is-number c =
-    let piece = c.next-piece-piece.result in
-    sym (c.in-Some.ensures 2 ∙ c.in-Some-behind-number.ensures 1
-    ∙ no_number c.in-Some-behind-number.patch.now piece.text.now piece.end piece.rest.now c.next-piece-piece.ensures (sym c.if-not-is-number.ensures) 1)
+pub returns-then-not-is_number : goal.returns-then-not-is_number
+returns-then-not-is_number c =
+    let piece = c.next_piece-piece.result in
+    sym (c.in-Some.ensures 2 ∙ c.in-Some-behind_number.ensures 1
+    ∙ no_number c.in-Some-behind_number.patch.now piece.text.now piece.end piece.rest.now c.next_piece-piece.ensures (sym c.if-not-is_number.ensures) 1)
 
 pub returns-in-Dash : goal.returns-in-Dash
 returns-in-Dash c =
-    let piece = c.next-piece-piece.result in
-    c.are-identifiers.ensures
-    ∙ sym (c.in-Some.ensures 2 ∙ c.in-Some-behind-number.ensures 1
-    ∙ last_dash c.in-Some-behind-number.patch.now piece.text.now piece.end piece.rest.now c.next-piece-piece.ensures (sym c.if-not-is-number.ensures) c.in-Dash.is)
+    let piece = c.next_piece-piece.result in
+    c.are_identifiers.ensures
+    ∙ sym (c.in-Some.ensures 2 ∙ c.in-Some-behind_number.ensures 1
+    ∙ last_dash c.in-Some-behind_number.patch.now piece.text.now piece.end piece.rest.now c.next_piece-piece.ensures (sym c.if-not-is_number.ensures) c.in-Dash.is)
 
 pub returns-in-Last : goal.returns-in-Last
 returns-in-Last c =
-    let piece = c.next-piece-piece.result in
-    sym (c.in-Some.ensures 2 ∙ c.in-Some-behind-number.ensures 1
-    ∙ last_over c.in-Some-behind-number.patch.now piece.text.now piece.end piece.rest.now c.next-piece-piece.ensures (sym c.if-not-is-number.ensures) c.in-Last.is)
+    let piece = c.next_piece-piece.result in
+    sym (c.in-Some.ensures 2 ∙ c.in-Some-behind_number.ensures 1
+    ∙ last_over c.in-Some-behind_number.patch.now piece.text.now piece.end piece.rest.now c.next_piece-piece.ensures (sym c.if-not-is_number.ensures) c.in-Last.is)
 
 pub returns-in-Dot : goal.returns-in-Dot
 returns-in-Dot c =
-    let piece = c.next-piece-piece.result in
-    sym (c.in-Some.ensures 2 ∙ c.in-Some-behind-number.ensures 1
-    ∙ last_dot c.in-Some-behind-number.patch.now piece.text.now piece.end piece.rest.now c.next-piece-piece.ensures (sym c.if-not-is-number.ensures) c.in-Dot.is)
+    let piece = c.next_piece-piece.result in
+    sym (c.in-Some.ensures 2 ∙ c.in-Some-behind_number.ensures 1
+    ∙ last_dot c.in-Some-behind_number.patch.now piece.text.now piece.end piece.rest.now c.next_piece-piece.ensures (sym c.if-not-is_number.ensures) c.in-Dot.is)

@@ -5,28 +5,28 @@ use Rattle.rules.specs.Versions.{is_newer}
 use Rattle.versions.proofs.Others.{other_not_newer, newer_than_other, newer_version, not_less}
 use Rattle.versions.proofs.texts.newer.Goals as goal
 
-pub returns-then-not-is-version : goal.returns-then-not-is-version
-returns-then-not-is-version c =
+pub returns-then-not-is_version : goal.returns-then-not-is_version
+returns-then-not-is_version c =
     let a = c.args.a in
     let b = c.args.b in
-    sym (cond-false (is_newer b.now a.now) b a (other_not_newer a.now b.now (sym c.if-not-is-version.ensures)))
+    sym (cond-false (is_newer b.now a.now) b a (other_not_newer a.now b.now (sym c.if-not-is_version.ensures)))
 
-pub returns-then-not-is-version-2 : goal.returns-then-not-is-version-2
-returns-then-not-is-version-2 c =
+pub returns-then-not-is_version-2 : goal.returns-then-not-is_version-2
+returns-then-not-is_version-2 c =
     let a = c.args.a in
     let b = c.args.b in
-    sym (cond-true (is_newer b.now a.now) b a (newer_than_other a.now b.now (sym c.if-not-is-version-2.ensures) (sym c.if-not-is-version.ensures)))
+    sym (cond-true (is_newer b.now a.now) b a (newer_than_other a.now b.now (sym c.if-not-is_version-2.ensures) (sym c.if-not-is_version.ensures)))
 
 pub returns-in-Less : goal.returns-in-Less
 returns-in-Less c =
     let a = c.args.a in
     let b = c.args.b in
-    let e = newer_version a.now b.now (sym c.if-not-is-version-2.ensures) (sym c.if-not-is-version.ensures) in
+    let e = newer_version a.now b.now (sym c.if-not-is_version-2.ensures) (sym c.if-not-is_version.ensures) in
     sym (cond-true (is_newer b.now a.now) b a (e ∙ ap is_lt (sym c.in-Less.ensures)))
 
-pub returns-in-default : goal.returns-in-default
-returns-in-default c =
+pub returns-in_default : goal.returns-in_default
+returns-in_default c =
     let a = c.args.a in
     let b = c.args.b in
-    let e = newer_version a.now b.now (sym c.if-not-is-version-2.ensures) (sym c.if-not-is-version.ensures) in
-    sym (cond-false (is_newer b.now a.now) b a (e ∙ ap is_lt (sym c.precedence.ensures) ∙ not_less c.precedence.result c.in-default.not-Less))
+    let e = newer_version a.now b.now (sym c.if-not-is_version-2.ensures) (sym c.if-not-is_version.ensures) in
+    sym (cond-false (is_newer b.now a.now) b a (e ∙ ap is_lt (sym c.precedence.ensures) ∙ not_less c.precedence.result c.in_default.not-Less))

@@ -18,6 +18,6 @@ returns c =
     let in_sheet : c.args.places ≤ length sheet = omega arith in
     let in_list : c.args.rows ≤ length list = omega arith in
     record {
-      after = both _ _ _ _ (blanked place_of blank_place c.blank.result c.blank.ensures.value sheet c.blank-from.new.items c.args.places in_sheet c.blank-from.ensures.items)
-          (blanked row_names blank c.blank-2.result c.blank-2.ensures list c.blank-from-2.new.items c.args.rows in_list c.blank-from-2.ensures.items);
+      after = both _ _ _ _ (blanked place_of blank_place c.blank.result c.blank.ensures.value sheet c.blank_from.new.items c.args.places in_sheet c.blank_from.ensures.items)
+          (blanked row_names blank c.blank-2.result c.blank-2.ensures list c.blank_from-2.new.items c.args.rows in_list c.blank_from-2.ensures.items);
     }

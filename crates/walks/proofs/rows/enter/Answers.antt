@@ -15,25 +15,25 @@ searched rows n x r e = let k : n - 0 ≡ n = omega arith in e ∙ ap (λ m. sou
 in_front : (rows : List Row) (n i : ℕ) → n < length rows → i < length (take (n - 0) rows) → i < n
 in_front rows n i h l = let k : n - 0 ≡ n = omega arith in omega (arith, ap (λ m. length (take m rows)) k, length-take-le n rows (omega arith))
 
-pub returns-then-is-lower : goal.returns-then-is-lower
-returns-then-is-lower c =
+pub returns-then-is_lower : goal.returns-then-is_lower
+returns-then-is_lower c =
     let rows = c.args.rows.now in
     let n = c.args.count in
     let i = c.in-Ok.at in
     let fits : n ≤ length rows = omega arith in
     let lt = in_front rows n i c.requires c.in-Ok.ensures.items in
-    let e = enter_lower rows n c.args.row i (searched rows n c.args.row (Ok i) c.in-Ok.ensures.value) lt fits c.index-rows-at.result c.if-is-lower.ensures.value in
+    let e = enter_lower rows n c.args.row i (searched rows n c.args.row (Ok i) c.in-Ok.ensures.value) lt fits c.index-rows_at.result c.if-is_lower.ensures.value in
     record { value = counted rows n _ fits e; after = e }
 
-pub returns-else-is-lower : goal.returns-else-is-lower
-returns-else-is-lower c =
+pub returns-else-is_lower : goal.returns-else-is_lower
+returns-else-is_lower c =
     let rows = c.args.rows.now in
     let n = c.args.count in
     let i = c.in-Ok.at in
     let x = c.args.row in
     let fits : n ≤ length rows = omega arith in
     let lt = in_front rows n i c.requires c.in-Ok.ensures.items in
-    let e = enter_higher rows n x i (searched rows n x (Ok i) c.in-Ok.ensures.value) lt fits c.index-rows-at.result c.if-is-lower.ensures.value in
+    let e = enter_higher rows n x i (searched rows n x (Ok i) c.in-Ok.ensures.value) lt fits c.index-rows_at.result c.if-is_lower.ensures.value in
     let fits_set : n ≤ length (set rows i x) = omega (arith, length-set rows i x) in
     record { value = counted (set rows i x) n _ fits_set e; after = e }
 
@@ -43,7 +43,7 @@ returns-in-Err c =
     let n = c.args.count in
     let i = c.in-Err.at in
     let x = c.args.row in
-    let after = c.insert-at.new.rows in
-    let e = ap (map row_names) c.insert-at.ensures.after ∙ enter_new rows n x i (searched rows n x (Err i) c.in-Err.ensures.value) in
-    let fits : n + 1 ≤ length after = omega (arith, c.insert-at.auto.rows) in
+    let after = c.insert_at.new.rows in
+    let e = ap (map row_names) c.insert_at.ensures.after ∙ enter_new rows n x i (searched rows n x (Err i) c.in-Err.ensures.value) in
+    let fits : n + 1 ≤ length after = omega (arith, c.insert_at.auto.rows) in
     record { value = counted after (n + 1) _ fits e; after = e }

@@ -10,11 +10,11 @@ use Rattle.walks.proofs.rows.list_rows.Goals as goal
 
 pub returns : goal.returns
 returns c =
-    let n = c.enter-all-count.result in
-    let rows = c.enter-all-count.new.rows in
-    let after = c.insert-at.new.rows in
-    let e = ap (map row_names) c.insert-at.ensures.after
+    let n = c.enter_all-count.result in
+    let rows = c.enter_all-count.new.rows in
+    let after = c.insert_at.new.rows in
+    let e = ap (map row_names) c.insert_at.ensures.after
     ∙ ap (λ (x : ModuleVersion). x ∷ map row_names (take n rows)) c.main_row.ensures.value
-    ∙ ap (λ xs. main_row (bare (path_bytes c.args.main.now)) ∷ xs) c.enter-all-count.ensures.after in
-    let fits : n + 1 ≤ length after = omega (arith, c.requires, c.enter-all-count.ensures.value, c.insert-at.auto.rows, c.enter-all-count.auto.rows) in
+    ∙ ap (λ xs. main_row (bare (path_bytes c.args.main.now)) ∷ xs) c.enter_all-count.ensures.after in
+    let fits : n + 1 ≤ length after = omega (arith, c.requires, c.enter_all-count.ensures.value, c.insert_at.auto.rows, c.enter_all-count.auto.rows) in
     record { value = counted after (n + 1) _ fits e; after = e }

@@ -7,13 +7,13 @@ use Rattle.walks.proofs.sheet.find_row.Goals as goal
 pub loop-i-init : goal.loop-i-init
 loop-i-init c = moved_none (row_names c.args.row.now) c.args.sheet.now
 
-pub returns-then-is-same : goal.returns-then-is-same
-returns-then-is-same c = record {
-  value = turn_here (row_names c.args.row.now) c.args.sheet.now c.loop-i.i c.loop-i.invariant c.index-sheet-i.result c.loop-i-test.true c.index-sheet-i.is c.if-is-same.ensures.value;
+pub returns-then-is_same : goal.returns-then-is_same
+returns-then-is_same c = record {
+  value = turn_here (row_names c.args.row.now) c.args.sheet.now c.loop-i.i c.loop-i.invariant c.index-sheet-i.result c.loop-i-test.true c.index-sheet-i.is c.if-is_same.ensures.value;
 }
 
 pub loop-i-preserved : goal.loop-i-preserved
-loop-i-preserved c = turn_on (row_names c.args.row.now) c.args.sheet.now c.loop-i.i c.loop-i.invariant c.index-sheet-i.result c.loop-i-test.true c.index-sheet-i.is c.if-is-same.ensures.value
+loop-i-preserved c = turn_on (row_names c.args.row.now) c.args.sheet.now c.loop-i.i c.loop-i.invariant c.index-sheet-i.result c.loop-i-test.true c.index-sheet-i.is c.if-is_same.ensures.value
 
 pub returns : goal.returns
 returns c = record { value = turn_out (row_names c.args.row.now) c.args.sheet.now c.loop-i.i c.loop-i.invariant (omega arith) }

@@ -7,4 +7,4 @@ use Rattle.walks.proofs.Writing.{place_has}
 use Rattle.walks.proofs.sheet.is_on_sheet.Goals as goal
 
 pub returns : goal.returns
-returns c = record { value = c.is-some.ensures ∙ ap is_some c.find-row.ensures.value ∙ place_has (module_versions (map place_of c.args.sheet.now)) (row_names c.args.row.now) }
+returns c = record { value = c.is_some.ensures ∙ ap is_some c.find_row.ensures.value ∙ place_has (module_versions (map place_of c.args.sheet.now)) (row_names c.args.row.now) }

@@ -16,22 +16,22 @@ use Rattle.walks.proofs.sheet.write_row.Goals as goal
 seen : (ps : List Place) (n : ℕ) (x : ModuleVersion) (b : Bool) → b ≡ has (module_versions (map place_of (take (n - 0) ps))) x → has (module_versions (map place_of (take n ps))) x ≡ b
 seen ps n x b e = let k : n ≡ n - 0 = omega arith in ap (λ m. has (module_versions (map place_of (take m ps))) x) k ∙ sym e
 
-pub returns-then-is-on : goal.returns-then-is-on
-returns-then-is-on c =
+pub returns-then-is_on : goal.returns-then-is_on
+returns-then-is_on c =
     let ps = c.args.sheet.now in
     let n = c.args.count in
     let s = map place_of (take n ps) in
     let fits : n ≤ length ps = omega arith in
-    let e = one_main (path_bytes c.args.main.now) c.args.from (row_names c.args.row) s (sym c.if-is-on.ensures.value) in
+    let e = one_main (path_bytes c.args.main.now) c.args.from (row_names c.args.row) s (sym c.if-is_on.ensures.value) in
     record { value = tells_room (one (path_bytes c.args.main.now) c.args.from (row_names c.args.row) s) ps n (omega (arith, ap length e, front_long ps n fits)) fits (sym e) }
 
-pub returns-then-is-on-sheet : goal.returns-then-is-on-sheet
-returns-then-is-on-sheet c =
+pub returns-then-is_on_sheet : goal.returns-then-is_on_sheet
+returns-then-is_on_sheet c =
     let ps = c.args.sheet.now in
     let n = c.args.count in
     let s = map place_of (take n ps) in
     let fits : n ≤ length ps = omega arith in
-    let e = one_there (path_bytes c.args.main.now) c.args.from (row_names c.args.row) s (sym c.if-is-on.ensures.value) (seen ps n (row_names c.args.row) _ c.if-is-on-sheet.ensures.value) in
+    let e = one_there (path_bytes c.args.main.now) c.args.from (row_names c.args.row) s (sym c.if-is_on.ensures.value) (seen ps n (row_names c.args.row) _ c.if-is_on_sheet.ensures.value) in
     record { value = tells_room (one (path_bytes c.args.main.now) c.args.from (row_names c.args.row) s) ps n (omega (arith, ap length e, front_long ps n fits)) fits (sym e) }
 
 pub returns-then-count-eq-MOST : goal.returns-then-count-eq-MOST
@@ -42,7 +42,7 @@ returns-then-count-eq-MOST c =
     let fits : n ≤ length ps = omega arith in
     let x = placed (row_names c.args.row) c.args.from in
     let full : n ≡ 256 = omega arith in
-    let e = one_new (path_bytes c.args.main.now) c.args.from (row_names c.args.row) s (sym c.if-is-on.ensures.value) (seen ps n (row_names c.args.row) _ c.if-is-on-sheet.ensures.value) in
+    let e = one_new (path_bytes c.args.main.now) c.args.from (row_names c.args.row) s (sym c.if-is_on.ensures.value) (seen ps n (row_names c.args.row) _ c.if-is_on_sheet.ensures.value) in
     let long = front_long ps n fits in
     record {
       value = tells_full (one (path_bytes c.args.main.now) c.args.from (row_names c.args.row) s) ps (record { places = 256; refusal = c.at-refusal.result }) (omega (arith, ap length e, length-append s (x ∷ []), long)) refl
@@ -57,7 +57,7 @@ returns c =
     let fits : n ≤ length ps = omega arith in
     let lt : n < length ps = omega arith in
     let p : Place = record { row = c.args.row; from = c.args.from } in
-    let e = one_new (path_bytes c.args.main.now) c.args.from (row_names c.args.row) s (sym c.if-is-on.ensures.value) (seen ps n (row_names c.args.row) _ c.if-is-on-sheet.ensures.value) in
+    let e = one_new (path_bytes c.args.main.now) c.args.from (row_names c.args.row) s (sym c.if-is_on.ensures.value) (seen ps n (row_names c.args.row) _ c.if-is_on_sheet.ensures.value) in
     let long = front_long ps n fits in
     record {
       value = tells_room (one (path_bytes c.args.main.now) c.args.from (row_names c.args.row) s) (set ps n p) (n + 1) (omega (arith, ap length e, length-append s (place_of p ∷ []), long))

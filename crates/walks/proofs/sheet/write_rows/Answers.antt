@@ -11,14 +11,14 @@ pub loop-row-preserved : goal.loop-row-preserved
 loop-row-preserved c =
     let s = map place_of (take c.args.count c.args.sheet.now) in
     turn_ok row_names (path_bytes c.args.main.now) c.args.from c.args.rows.now s c.loop-row.row-index c.row-item.result c.row-item.result
-    c.loop-row-test.true c.row-item.is (map place_of (take c.loop-row.places c.loop-row.sheet)) c.loop-row.invariant.1 c.write-row.new.sheet c.in-Ok.more c.in-Ok.ensures.value
+    c.loop-row-test.true c.row-item.is (map place_of (take c.loop-row.places c.loop-row.sheet)) c.loop-row.invariant.1 c.write_row.new.sheet c.in-Ok.more c.in-Ok.ensures.value
 
 pub returns-in-Err : goal.returns-in-Err
 returns-in-Err c =
     let s = map place_of (take c.args.count c.args.sheet.now) in
     record {
       value = turn_err row_names (path_bytes c.args.main.now) c.args.from c.args.rows.now s c.loop-row.row-index c.row-item.result c.row-item.result
-          c.loop-row-test.true c.row-item.is (map place_of (take c.loop-row.places c.loop-row.sheet)) c.loop-row.invariant.1 c.write-row.new.sheet c.in-Err.stop c.in-Err.ensures.value;
+          c.loop-row-test.true c.row-item.is (map place_of (take c.loop-row.places c.loop-row.sheet)) c.loop-row.invariant.1 c.write_row.new.sheet c.in-Err.stop c.in-Err.ensures.value;
     }
 
 pub returns : goal.returns

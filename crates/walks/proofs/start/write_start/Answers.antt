@@ -25,8 +25,8 @@ loop-of-preserved c =
     let s = map place_of (take 1 c.args.sheet.now) in
     let front = map place_of (take c.loop-of.places c.loop-of.sheet) in
     turn_ok names_of (path_bytes c.args.main.now) 0 c.args.start.now s c.loop-of.of-index c.of-item.result c.of-item.result
-    c.loop-of-test.true c.of-item.is front c.loop-of.invariant.1 c.write-row.new.sheet c.in-Ok.more
-    (of_row (path_bytes c.args.main.now) front c.of-item.result c.row.result _ c.write-row.new.sheet c.row.ensures c.in-Ok.ensures.value)
+    c.loop-of-test.true c.of-item.is front c.loop-of.invariant.1 c.write_row.new.sheet c.in-Ok.more
+    (of_row (path_bytes c.args.main.now) front c.of-item.result c.row.result _ c.write_row.new.sheet c.row.ensures c.in-Ok.ensures.value)
 
 pub returns-in-Err : goal.returns-in-Err
 returns-in-Err c =
@@ -34,8 +34,8 @@ returns-in-Err c =
     let front = map place_of (take c.loop-of.places c.loop-of.sheet) in
     record {
       value = turn_err names_of (path_bytes c.args.main.now) 0 c.args.start.now s c.loop-of.of-index c.of-item.result c.of-item.result
-          c.loop-of-test.true c.of-item.is front c.loop-of.invariant.1 c.write-row.new.sheet c.in-Err.stop
-          (of_row (path_bytes c.args.main.now) front c.of-item.result c.row.result _ c.write-row.new.sheet c.row.ensures c.in-Err.ensures.value);
+          c.loop-of-test.true c.of-item.is front c.loop-of.invariant.1 c.write_row.new.sheet c.in-Err.stop
+          (of_row (path_bytes c.args.main.now) front c.of-item.result c.row.result _ c.write_row.new.sheet c.row.ensures c.in-Err.ensures.value);
     }
 
 pub returns : goal.returns

@@ -36,8 +36,8 @@ checked-of-requires g c =
     subst (λ (x : ModuleVersion). is_module_version x ≡ true) (sym (row_at ps n i c.index-sheet-at.result lt fits))
     (c.requires.1 i (get_or (map place_of (take n ps)) i blank_place) one (reads (remaining w) i (map place_of (take n ps)) (in_front ps n i lt fits)))
 
-pub slice-bounds-write-rows-end : goal.slice-bounds-write-rows-end
-slice-bounds-write-rows-end g c =
+pub slice_bounds-write_rows-end : goal.slice_bounds-write_rows-end
+slice_bounds-write_rows-end g c =
     let x = names_of c.checked-of.result in
     let all : 64 ≤ length (replicate 64 c.blank-rows.result) = omega (arith, length-replicate 64 c.blank-rows.result) in
     found_fits row_names blank (length (replicate 64 c.blank-rows.result)) c.in-Ok.found.count ((g.S.Source.meaning c.args.source.now).requirements x) c.requirements.new.rows all
@@ -64,7 +64,7 @@ returns-in-Ok g c =
     record {
       same = c.in-Ok.ensures.same;
       inside = c.in-Ok.ensures.inside;
-      value = tells_by _ _ c.write-rows.result c.write-rows.new.sheet (asked_found w i s (in_front ps n i lt fits) x e (map row_names (take (k - 0) rows)) a) c.write-rows.ensures.value;
+      value = tells_by _ _ c.write_rows.result c.write_rows.new.sheet (asked_found w i s (in_front ps n i lt fits) x e (map row_names (take (k - 0) rows)) a) c.write_rows.ensures.value;
     }
 
 pub returns-in-Err : goal.returns-in-Err
@@ -86,5 +86,5 @@ returns-in-Err g c =
     record {
       same = c.in-Err.ensures.same;
       inside = c.in-Err.ensures.inside;
-      value = tells_by _ _ _ ps (asked_fault w i s (in_front ps n i lt fits) x e f a) (tells_fault i n f c.stop-at.result ps short fits c.stop-at.ensures.after c.stop-at.ensures.refused);
+      value = tells_by _ _ _ ps (asked_fault w i s (in_front ps n i lt fits) x e f a) (tells_fault i n f c.stop_at.result ps short fits c.stop_at.ensures.after c.stop_at.ensures.refused);
     }

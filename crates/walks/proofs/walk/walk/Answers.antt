@@ -9,16 +9,16 @@ use Rattle.walks.proofs.Telling.{tells_by}
 use Rattle.walks.proofs.Starting.{formed_names, first_place, starts_on, starts_over}
 use Rattle.walks.proofs.walk.walk.Goals as goal
 
-pub walk-on-requires : goal.walk-on-requires
-walk-on-requires g c =
+pub walk_on-requires : goal.walk_on-requires
+walk_on-requires g c =
     let ps = c.args.sheet.now in
     let main = path_bytes c.args.main.now in
     let w = seen_by main (g.S.Source.meaning c.args.source.now) in
     let p : Place = record { row = c.main_row.result; from = 0 } in
     let some : 0 < length ps = omega arith in
     let (one, short, formed, e) = starts_on w (map names_of c.args.start.now) (map place_of (take 1 (set ps 0 p))) (first_place main ps c.main_row.result c.main_row.ensures.value some)
-    c.write-start.new.sheet (formed_names c.args.start.now) c.in-Ok.count c.in-Ok.ensures.value in
-    let long : 256 ≤ length c.write-start.new.sheet = omega (arith, c.write-start.auto.sheet, length-set ps 0 p) in
+    c.write_start.new.sheet (formed_names c.args.start.now) c.in-Ok.count c.in-Ok.ensures.value in
+    let long : 256 ≤ length c.write_start.new.sheet = omega (arith, c.write_start.auto.sheet, length-set ps 0 p) in
     ((one, short, long), formed)
 
 pub returns-in-Ok : goal.returns-in-Ok
@@ -29,8 +29,8 @@ returns-in-Ok g c =
     let p : Place = record { row = c.main_row.result; from = 0 } in
     let some : 0 < length ps = omega arith in
     let (one, short, formed, e) = starts_on w (map names_of c.args.start.now) (map place_of (take 1 (set ps 0 p))) (first_place main ps c.main_row.result c.main_row.ensures.value some)
-    c.write-start.new.sheet (formed_names c.args.start.now) c.in-Ok.count c.in-Ok.ensures.value in
-    record { same = c.walk-on.ensures.same; inside = c.walk-on.ensures.inside; value = tells_by _ _ c.walk-on.result c.walk-on.new.sheet e c.walk-on.ensures.value }
+    c.write_start.new.sheet (formed_names c.args.start.now) c.in-Ok.count c.in-Ok.ensures.value in
+    record { same = c.walk_on.ensures.same; inside = c.walk_on.ensures.inside; value = tells_by _ _ c.walk_on.result c.walk_on.new.sheet e c.walk_on.ensures.value }
 
 pub returns-in-Err : goal.returns-in-Err
 returns-in-Err g c =
@@ -43,5 +43,5 @@ returns-in-Err g c =
       same = refl;
       inside = refl;
       value = starts_over w (map names_of c.args.start.now) (map place_of (take 1 (set ps 0 p))) (first_place main ps c.main_row.result c.main_row.ensures.value some)
-          c.write-start.new.sheet c.in-Err.stop c.in-Err.ensures.value;
+          c.write_start.new.sheet c.in-Err.stop c.in-Err.ensures.value;
     }

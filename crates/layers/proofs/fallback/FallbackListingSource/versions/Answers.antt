@@ -13,11 +13,11 @@ returns-then-versions-lt64 g c =
     let (value, items) = tells_short plain_version_bytes blank_version (length c.args.versions.now) _ c.blank.result _ c.refuse.new.items c.if-versions-lt64.true c.blank.ensures c.refuse.ensures.value c.refuse.ensures.items in
     record { same = refl; inside = refl; value = value; items = items; first = refl; second = refl }
 
-pub slice-bounds-listing-of-end : goal.slice-bounds-listing-of-end
-slice-bounds-listing-of-end g c = found_fits plain_version_bytes blank_version _ _ _ _ c.if-versions-lt64.false (c.in-Ok.ensures.value, c.in-Ok.ensures.items)
+pub slice_bounds-listing_of-end : goal.slice_bounds-listing_of-end
+slice_bounds-listing_of-end g c = found_fits plain_version_bytes blank_version _ _ _ _ c.if-versions-lt64.false (c.in-Ok.ensures.value, c.in-Ok.ensures.items)
 
-pub listing-of-listing-requires : goal.listing-of-listing-requires
-listing-of-listing-requires g c =
+pub listing_of-listing-requires : goal.listing_of-listing-requires
+listing_of-listing-requires g c =
     let first = c.args.self.now.first in
     let p = path_bytes c.args.of.now in
     let items = c.versions.new.versions in
@@ -25,8 +25,8 @@ listing-of-listing-requires g c =
     let e = found_told plain_version_bytes blank_version (length c.args.versions.now) k ((g.F.Source.meaning first).listing p) items c.if-versions-lt64.false (c.in-Ok.ensures.value, c.in-Ok.ensures.items) in
     record { few = part_few (g.F.Source.meaning first) (g.F.Source.lawful first) p items k e; ascending = part_ascends (g.F.Source.meaning first) (g.F.Source.lawful first) p items k e }
 
-pub lay-joined-requires : goal.lay-joined-requires
-lay-joined-requires g c =
+pub lay_joined-requires : goal.lay_joined-requires
+lay_joined-requires g c =
     let long : 64 ≤ length c.versions.new.versions = omega (arith, c.if-versions-lt64.false, c.versions.auto.versions) in
     record {
       fits = found_fits plain_version_bytes blank_version _ _ _ _ long (c.in-Ok-versions.ensures.value, c.in-Ok-versions.ensures.items);
@@ -47,14 +47,14 @@ returns-in-Ok-versions g c =
     let long : 64 ≤ length one = omega (arith, c.if-versions-lt64.false, c.versions.auto.versions) in
     let e = found_told plain_version_bytes blank_version n k (a.listing p) one c.if-versions-lt64.false (c.in-Ok.ensures.value, c.in-Ok.ensures.items) in
     let f = found_told plain_version_bytes blank_version (length one) j (b.listing p) two long (c.in-Ok-versions.ensures.value, c.in-Ok-versions.ensures.items) in
-    let u = c.listing-of-listing.ensures.value ∙ part_whole a (g.F.Source.lawful s.first) p one k e in
+    let u = c.listing_of-listing.ensures.value ∙ part_whole a (g.F.Source.lawful s.first) p one k e in
     let w = both_found a b p _ (map plain_version_bytes (take k one)) (map plain_version_bytes (take j two)) u e f in
     let long2 = c.versions-2.auto.versions ∙ c.versions.auto.versions in
     record {
       same = ap₂ falling_back c.in-Ok.ensures.same c.in-Ok-versions.ensures.same;
       inside = ap₂ ◌++◌ c.in-Ok.ensures.inside c.in-Ok-versions.ensures.inside;
-      value = c.lay-joined.ensures.value ∙ ap₂ (λ i z. (told blank_version i z).answer) long2 w;
-      items = c.lay-joined.ensures.items ∙ ap₂ (λ i z. (told blank_version i z).slice) long2 w;
+      value = c.lay_joined.ensures.value ∙ ap₂ (λ i z. (told blank_version i z).answer) long2 w;
+      items = c.lay_joined.ensures.items ∙ ap₂ (λ i z. (told blank_version i z).slice) long2 w;
       first = c.in-Ok.ensures.same;
       second = c.in-Ok-versions.ensures.same;
     }

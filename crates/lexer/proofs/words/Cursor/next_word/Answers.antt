@@ -9,23 +9,23 @@ use Rattle.lexer.proofs.words.Cursor.next_word.Goals as goal
 pub returns-in-empty : goal.returns-in-empty
 returns-in-empty c =
     let self = c.args.self.now in
-    let none : words self.rest.now ≡ [] = no_word self.rest.now _ _ refl c.gap-length-gaps.ensures.value.0 (search rules) in
+    let none : words self.rest.now ≡ [] = no_word self.rest.now _ _ refl c.gap_length-gaps.ensures.value.0 (search rules) in
     record { value = sym (ap (next_word self.line) none); items = none ∙ sym (ap but_first none); same = refl }
 
 pub returns-in-40 : goal.returns-in-40
 returns-in-40 c =
     let self = c.args.self.now in
-    let on = at_opening self.rest.now _ _ refl c.gap-length-gaps.ensures.value.0 (search rules) (search rules) in
+    let on = at_opening self.rest.now _ _ refl c.gap_length-gaps.ensures.value.0 (search rules) (search rules) in
     record { value = sym (ap (next_word self.line) on); items = sym (ap but_first on); same = refl }
 
 pub returns-in-41 : goal.returns-in-41
 returns-in-41 c =
     let self = c.args.self.now in
-    let on = at_closing self.rest.now _ _ refl c.gap-length-gaps.ensures.value.0 (search rules) (search rules) in
+    let on = at_closing self.rest.now _ _ refl c.gap_length-gaps.ensures.value.0 (search rules) (search rules) in
     record { value = sym (ap (next_word self.line) on); items = sym (ap but_first on); same = refl }
 
-pub returns-in-default : goal.returns-in-default
-returns-in-default c =
+pub returns-in_default : goal.returns-in_default
+returns-in_default c =
     let self = c.args.self.now in
-    let on = at_text self.rest.now _ _ refl c.gap-length-gaps.ensures.value.0 c.word-length-long.result (search rules) (search rules) (search rules) c.word-length-long.ensures.value.0 in
+    let on = at_text self.rest.now _ _ refl c.gap_length-gaps.ensures.value.0 c.word_length-long.result (search rules) (search rules) (search rules) c.word_length-long.ensures.value.0 in
     record { value = sym (ap (next_word self.line) on); items = sym (ap but_first on); same = refl }

@@ -7,14 +7,14 @@ use Rattle.lowers.proofs.learned.Learned.spread.Goals as goal
 pub loop-more-init : goal.loop-more-init
 loop-more-init c = (refl, spread_none c.args.self.now, λ t. absurd (true≢false t))
 
-pub spread-once-more-requires : goal.spread-once-more-requires
-spread-once-more-requires c = subst Narrow (sym c.loop-more.invariant.0) c.requires
+pub spread_once-more-requires : goal.spread_once-more-requires
+spread_once-more-requires c = subst Narrow (sym c.loop-more.invariant.0) c.requires
 
 pub loop-more-preserved : goal.loop-more-preserved
 loop-more-preserved c =
     let (edges, spread, still) = c.loop-more.invariant in
-    let pass = c.spread-once-more.ensures.marks in
-    (c.spread-once-more.ensures.edges ∙ edges, spread_more c.args.self.now c.loop-more.self c.spread-once-more.new.self spread edges pass.spread, pass.still)
+    let pass = c.spread_once-more.ensures.marks in
+    (c.spread_once-more.ensures.edges ∙ edges, spread_more c.args.self.now c.loop-more.self c.spread_once-more.new.self spread edges pass.spread, pass.still)
 
 pub loop-more-smaller : goal.loop-more-smaller
-loop-more-smaller c = let one : ◌≡◌ {A = ℕ} (cond c.loop-more.more 1 0) 1 = ap (λ (b : Bool). cond b 1 0) c.loop-more-test.true in omega (arith, c.spread-once-more.ensures.marks.fewer, one)
+loop-more-smaller c = let one : ◌≡◌ {A = ℕ} (cond c.loop-more.more 1 0) 1 = ap (λ (b : Bool). cond b 1 0) c.loop-more-test.true in omega (arith, c.spread_once-more.ensures.marks.fewer, one)

@@ -5,7 +5,7 @@ use Rattle.lowers.specs.declared.learned.Edge.{Edge}
 use Rattle.lowers.specs.declared.learned.Learned.{Learned}
 use Rattle.lowers.proofs.Spreading.{Passing, passing_none, edge_in, passing_marks, passing_on, passed}
 use Rattle.lowers.proofs.learned.Learned.spread_once.Goals as goal
-use Rattle.lowers.proofs.learned.Learned.spread_once.Goals.{then-spread-along, else-spread-along}
+use Rattle.lowers.proofs.learned.Learned.spread_once.Goals.{then-spread_along, else-spread_along}
 
 pub loop-i-init : goal.loop-i-init
 loop-i-init c = passing_none c.args.self.now
@@ -14,8 +14,8 @@ loop-i-init c = passing_none c.args.self.now
 read_is : (l k : Learned) (i : ℕ) (more : Bool) → Passing l i more k → i < l.count → (d : Edge) → get_or k.edges i d ≡ get_or k.edges i (get_or k.edges i d)
 read_is l k i more p lt d = get_or_default k.edges i d (get_or k.edges i d) (omega (arith, k.fits.0, k.fits.1, p.count))
 
-pub spread-along-requires : goal.spread-along-requires
-spread-along-requires c =
+pub spread_along-requires : goal.spread_along-requires
+spread_along-requires c =
     let l = c.args.self.now in
     let k = c.loop-i.self in
     let i = c.loop-i.i in
@@ -33,13 +33,13 @@ loop-i-preserved c =
     let e : Edge = get_or k.edges i d in
     let read = read_is l k i c.loop-i.more c.loop-i.invariant lt d in
     let wide : e.from < length k.marked = omega (arith, (c.requires e (edge_in l i c.loop-i.more k c.loop-i.invariant lt e read)).0, k.wide) in
-    elim c.if-spread-along.branch [
-      | then-spread-along w ↦ subst (λ (b : Bool). Passing l (i + 1) b c.spread-along.new.self) (sym w.more-is)
-          (passing_marks l i c.loop-i.more k c.loop-i.invariant lt e read c.spread-along.new.self w.if-spread-along.ensures.edges.0 w.if-spread-along.ensures.edges.1 wide
-          w.if-spread-along.ensures.value w.if-spread-along.ensures.marks)
-      | else-spread-along w ↦ subst (λ (b : Bool). Passing l (i + 1) b c.spread-along.new.self) (sym w.more-is)
-          (passing_on l i c.loop-i.more k c.loop-i.invariant lt e read c.spread-along.new.self w.if-spread-along.ensures.edges.0 w.if-spread-along.ensures.edges.1
-          w.if-spread-along.ensures.value w.if-spread-along.ensures.marks)
+    elim c.if-spread_along.branch [
+      | then-spread_along w ↦ subst (λ (b : Bool). Passing l (i + 1) b c.spread_along.new.self) (sym w.more-is)
+          (passing_marks l i c.loop-i.more k c.loop-i.invariant lt e read c.spread_along.new.self w.if-spread_along.ensures.edges.0 w.if-spread_along.ensures.edges.1 wide
+          w.if-spread_along.ensures.value w.if-spread_along.ensures.marks)
+      | else-spread_along w ↦ subst (λ (b : Bool). Passing l (i + 1) b c.spread_along.new.self) (sym w.more-is)
+          (passing_on l i c.loop-i.more k c.loop-i.invariant lt e read c.spread_along.new.self w.if-spread_along.ensures.edges.0 w.if-spread_along.ensures.edges.1
+          w.if-spread_along.ensures.value w.if-spread_along.ensures.marks)
     ]
 
 pub returns : goal.returns

@@ -12,5 +12,5 @@ pub returns : goal.returns
 returns c =
     let t = held c.args.self.now.table in
     let x = c.args.row.now in
-    c.is-some.ensures ∙ some_map (λ y. y.now) c.lookup.result ∙ ap is_some c.lookup.ensures.value ∙ some_map row_names (lookup own row_order x t)
+    c.is_some.ensures ∙ some_map (λ y. y.now) c.lookup.result ∙ ap is_some c.lookup.ensures.value ∙ some_map row_names (lookup own row_order x t)
     ∙ ap is_some (map_lookup own row_order own module_order row_names x (row_names x) (λ y. refl) t)

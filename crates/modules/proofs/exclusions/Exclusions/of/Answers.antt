@@ -16,9 +16,9 @@ named t u e =
     fitting_map 32 row_names (joined own row_order t u)
     ∙ ap (fitting 32) (map_joined own row_order own module_order row_names (λ a b. refl) t u ∙ ap (λ s. joined own module_order s (map row_names u)) e)
 
-pub returns-in-err-table : goal.returns-in-err-table
-returns-in-err-table c =
-    rw c.from-residual.ensures (ap (option_map (map row_names)) c.in-err-table.ensures.value ∙ named (held c.new.result.table) c.args.rows.now c.new.ensures)
+pub returns-in_err-table : goal.returns-in_err-table
+returns-in_err-table c =
+    rw c.from_residual.ensures (ap (option_map (map row_names)) c.in_err-table.ensures.value ∙ named (held c.new.result.table) c.args.rows.now c.new.ensures)
 
 pub returns : goal.returns
-returns c = ap (option_map (map row_names)) c.in-ok-table.ensures.value ∙ named (held c.new.result.table) c.args.rows.now c.new.ensures
+returns c = ap (option_map (map row_names)) c.in_ok-table.ensures.value ∙ named (held c.new.result.table) c.args.rows.now c.new.ensures

@@ -16,12 +16,12 @@ named t u =
     fitting_map 64 plain_version_bytes (joined own plain_version_order t u)
     ∙ ap (fitting 64) (map_joined own plain_version_order own version_order plain_version_bytes (λ a b. refl) t u)
 
-pub returns-in-err-table : goal.returns-in-err-table
-returns-in-err-table c =
+pub returns-in_err-table : goal.returns-in_err-table
+returns-in_err-table c =
     let t = held c.args.self.now.table in
-    rw c.from-residual.ensures (ap (option_map (map plain_version_bytes)) c.in-err-table.ensures.value ∙ named t c.args.other.now)
+    rw c.from_residual.ensures (ap (option_map (map plain_version_bytes)) c.in_err-table.ensures.value ∙ named t c.args.other.now)
 
 pub returns : goal.returns
 returns c =
     let t = held c.args.self.now.table in
-    ap (option_map (map plain_version_bytes)) c.in-ok-table.ensures.value ∙ named t c.args.other.now
+    ap (option_map (map plain_version_bytes)) c.in_ok-table.ensures.value ∙ named t c.args.other.now

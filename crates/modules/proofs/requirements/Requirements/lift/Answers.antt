@@ -6,16 +6,16 @@ use Rattle.modules.specs.Rows.{row_path}
 use Rattle.modules.proofs.Raises.{ascending_keys, keys_set, lifted}
 use Rattle.modules.proofs.requirements.Requirements.lift.Goals as goal
 
-written : (c : goal.After-with-items-self) → held c.with-items-self.result ≡ set (held c.args.self.now.table) c.args.at c.args.row
+written : (c : goal.After-with_items-self) → held c.with_items-self.result ≡ set (held c.args.self.now.table) c.args.at c.args.row
 written c =
     let t = held c.args.self.now.table in
-    c.with-items-self.ensures.value
-    ∙ lifted c.items-rows.result t (length t) c.args.at c.index-rows-at.result c.args.row c.lift.new.self c.items-rows.ensures.items c.requires.0 c.requires.0 c.requires.1 c.lift.ensures.after
+    c.with_items-self.ensures.value
+    ∙ lifted c.items-rows.result t (length t) c.args.at c.index-rows_at.result c.args.row c.lift.new.self c.items-rows.ensures.items c.requires.0 c.requires.0 c.requires.1 c.lift.ensures.after
 
-pub invariant-of-self : goal.invariant-of-self
-invariant-of-self c =
+pub invariant_of-self : goal.invariant_of-self
+invariant_of-self c =
     let t = held c.args.self.now.table in (
-      ascending_keys row_path plain_path_order t (held c.with-items-self.result)
+      ascending_keys row_path plain_path_order t (held c.with_items-self.result)
           (ap (map row_path) (written c) ∙ keys_set row_path plain_path_order t c.args.at c.args.row c.requires.0 c.requires.1) c.args.self.now.ascending,
       tt,
     )
@@ -24,6 +24,6 @@ pub returns : goal.returns
 returns c =
     let t = held c.args.self.now.table in
     record {
-      after = c.with-items-self.ensures.value
-          ∙ lifted c.items-rows.result t (length t) c.args.at c.index-rows-at.result c.args.row c.lift.new.self c.items-rows.ensures.items c.requires.0 c.requires.0 c.requires.1 c.lift.ensures.after;
+      after = c.with_items-self.ensures.value
+          ∙ lifted c.items-rows.result t (length t) c.args.at c.index-rows_at.result c.args.row c.lift.new.self c.items-rows.ensures.items c.requires.0 c.requires.0 c.requires.1 c.lift.ensures.after;
     }

@@ -15,17 +15,17 @@ read : (slice t : List Row) (row : Row) (i : ℕ) (d : Row) (b : Bool) → slice
     → b ≡ is_le (version_order (row_names row).version (row_names (get_or t i d)).version)
 read slice t row i d b e q h = h ∙ ap (λ (y : Row). is_le (version_order (row_names row).version (row_names y).version)) (q ∙ ap (λ xs. get_or xs i d) e)
 
-pub returns-then-is-upto : goal.returns-then-is-upto
-returns-then-is-upto c =
+pub returns-then-is_upto : goal.returns-then-is_upto
+returns-then-is_upto c =
     let t = held c.args.self.now.table in
     let row = c.args.row in
     let i = c.in-Ok.at in
-    let d = c.index-rows-at.result in
-    let s = c.as-slice-rows.ensures.value in
+    let d = c.index-rows_at.result in
+    let s = c.as_slice-rows.ensures.value in
     let e : Ok i ≡ sought row_path plain_path_order row.path t = c.in-Ok.ensures.value ∙ ap (sought row_path plain_path_order row.path) s in
     let h : i < length t = subst (λ (xs : List Row). i < length xs) s c.in-Ok.ensures.items in
     record {
-      value = told_upto t row i e h d (read c.as-slice-rows.result.now t row i d true s c.index-rows-at.is c.if-is-upto.ensures.value);
+      value = told_upto t row i e h d (read c.as_slice-rows.result.now t row i d true s c.index-rows_at.is c.if-is_upto.ensures.value);
       after = λ q. cc;
       refused = λ q. refl;
     }
@@ -35,21 +35,21 @@ lift-requires c =
     let t = held c.args.self.now.table in
     let row = c.args.row in
     let i = c.in-Ok.at in
-    let s = c.as-slice-rows.ensures.value in
+    let s = c.as_slice-rows.ensures.value in
     let e : Ok i ≡ sought row_path plain_path_order row.path t = c.in-Ok.ensures.value ∙ ap (sought row_path plain_path_order row.path) s in
     let h : i < length t = subst (λ (xs : List Row). i < length xs) s c.in-Ok.ensures.items in
     (h, path_there t row i e h row)
 
-pub returns-else-is-upto : goal.returns-else-is-upto
-returns-else-is-upto c =
+pub returns-else-is_upto : goal.returns-else-is_upto
+returns-else-is_upto c =
     let t = held c.args.self.now.table in
     let row = c.args.row in
     let i = c.in-Ok.at in
-    let d = c.index-rows-at.result in
-    let s = c.as-slice-rows.ensures.value in
+    let d = c.index-rows_at.result in
+    let s = c.as_slice-rows.ensures.value in
     let e : Ok i ≡ sought row_path plain_path_order row.path t = c.in-Ok.ensures.value ∙ ap (sought row_path plain_path_order row.path) s in
     let h : i < length t = subst (λ (xs : List Row). i < length xs) s c.in-Ok.ensures.items in
-    let up = read c.as-slice-rows.result.now t row i d false s c.index-rows-at.is c.if-is-upto.ensures.value in
+    let up = read c.as_slice-rows.result.now t row i d false s c.index-rows_at.is c.if-is_upto.ensures.value in
     record {
       value = told_higher t row i e h d up;
       after = λ q. ap (map row_names) c.lift.ensures.after ∙ set_higher t row i e h d up;
@@ -61,7 +61,7 @@ returns-in-Ok-add c =
     let t = held c.args.self.now.table in
     let row = c.args.row in
     let i = c.in-Err.field-0 in
-    let e : Err i ≡ sought row_path plain_path_order row.path t = c.in-Err.ensures.value ∙ ap (sought row_path plain_path_order row.path) c.as-slice-rows.ensures.value in
+    let e : Err i ≡ sought row_path plain_path_order row.path t = c.in-Err.ensures.value ∙ ap (sought row_path plain_path_order row.path) c.as_slice-rows.ensures.value in
     record {
       value = told_new t row i e (Ok c.in-Ok-add.field-0) c.in-Ok-add.ensures.value;
       after = c.in-Ok-add.ensures.after;
@@ -73,7 +73,7 @@ returns-in-Err-add c =
     let t = held c.args.self.now.table in
     let row = c.args.row in
     let i = c.in-Err.field-0 in
-    let e : Err i ≡ sought row_path plain_path_order row.path t = c.in-Err.ensures.value ∙ ap (sought row_path plain_path_order row.path) c.as-slice-rows.ensures.value in
+    let e : Err i ≡ sought row_path plain_path_order row.path t = c.in-Err.ensures.value ∙ ap (sought row_path plain_path_order row.path) c.as_slice-rows.ensures.value in
     record {
       value = told_new t row i e (Err c.in-Err-add.field-0) c.in-Err-add.ensures.value;
       after = λ q. cc;

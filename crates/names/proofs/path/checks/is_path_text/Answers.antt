@@ -18,21 +18,21 @@ step s i p t l e =
 passes : (s : Bytes) → length s ≤ 48 → is_path s ≡ scan slash s
 passes s l = ap (λ b. b && every is_element (pieces slash s)) (le-leb (length s) 48 l) ∙ sym (scanned s)
 
-pub returns-then-not-may-follow : goal.returns-then-not-may-follow
-returns-then-not-may-follow c =
+pub returns-then-not-may_follow : goal.returns-then-not-may_follow
+returns-then-not-may_follow c =
     let s = c.args.text.now in
     let i = c.loop-b.b-index in
-    sym (passes s (omega arith) ∙ sym c.loop-b.invariant ∙ step s i c.loop-b.before false c.loop-b-test.true c.if-not-may-follow.ensures)
+    sym (passes s (omega arith) ∙ sym c.loop-b.invariant ∙ step s i c.loop-b.before false c.loop-b-test.true c.if-not-may_follow.ensures)
 
 pub loop-b-preserved : goal.loop-b-preserved
 loop-b-preserved c =
     let s = c.args.text.now in
     let i = c.loop-b.b-index in
-    sym (step s i c.loop-b.before true c.loop-b-test.true c.if-not-may-follow.ensures) ∙ c.loop-b.invariant
+    sym (step s i c.loop-b.before true c.loop-b-test.true c.if-not-may_follow.ensures) ∙ c.loop-b.invariant
 
 pub returns : goal.returns
 returns c =
     let s = c.args.text.now in
     let out : length s ≤ c.loop-b.b-index = omega arith in
     let e : drop c.loop-b.b-index s ≡ [] = drop_all _ _ out in
-    ap not c.is-at-edge.ensures ∙ ap (scan c.loop-b.before) (sym e) ∙ c.loop-b.invariant ∙ sym (passes s (omega arith))
+    ap not c.is_at_edge.ensures ∙ ap (scan c.loop-b.before) (sym e) ∙ c.loop-b.invariant ∙ sym (passes s (omega arith))

@@ -63,11 +63,11 @@ returns-else-self g c =
     let e = missed g (goal.at.returns-else-self g c).In-Err in
     let room : ltb (length (held t)) g.row.N ≡ true =
     lt-ltb (length (held t)) g.row.N (omega (arith, length-take-le t.count t.items (omega arith))) in
-    let put : take (t.count + 1) c.insert-at.new.items ≡ entered key order keep x (held t) =
-    c.insert-at.ensures.after ∙ missed_put key order t.items t.count x c.in-Err.at e in
+    let put : take (t.count + 1) c.insert_at.new.items ≡ entered key order keep x (held t) =
+    c.insert_at.ensures.after ∙ missed_put key order t.items t.count x c.in-Err.at e in
     record {
       value = sym (ap₂ admitted (sym (missed_looked key order t.items t.count (key x) c.in-Err.at e)) room);
       after = λ _. put;
       refused = λ q. cc;
-      ascending = entered_ascends key order (laws g) (held t) (take (t.count + 1) c.insert-at.new.items) keep (λ _ _ _. refl) x put;
+      ascending = entered_ascends key order (laws g) (held t) (take (t.count + 1) c.insert_at.new.items) keep (λ _ _ _. refl) x put;
     }

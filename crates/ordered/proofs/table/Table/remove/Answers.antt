@@ -20,13 +20,13 @@ returns-in-Ok g c =
     let key = g.T.Keyed.keyed in
     let order = g.K.Ordered.order in
     let e = c.in-Ok.ensures in
-    let left : take (t.count - 1) c.remove-at.new.items ≡ tables.removed key order k (held t) =
-    c.remove-at.ensures.after ∙ found_gone key order t.items t.count k c.in-Ok.at e.value in
+    let left : take (t.count - 1) c.remove_at.new.items ≡ tables.removed key order k (held t) =
+    c.remove_at.ensures.after ∙ found_gone key order t.items t.count k c.in-Ok.at e.value in
     record {
       value = found_looked key order t.items t.count k c.in-Ok.at e.value e.items c.index-self-at.result;
       after = left;
       same = λ q. cc;
-      ascending = removed_ascends key order (laws g) (held t) (take (t.count - 1) c.remove-at.new.items) k left;
+      ascending = removed_ascends key order (laws g) (held t) (take (t.count - 1) c.remove_at.new.items) k left;
     }
 
 pub returns-in-Err : goal.returns-in-Err

@@ -14,8 +14,8 @@ use Rattle.project.specs.States.{main_state}
 use Rattle.project.proofs.Formed.{formed_without}
 use Rattle.project.proofs.main_module.MainModule.drop_row.Goals as goal
 
-pub invariant-of-self : goal.invariant-of-self
-invariant-of-self c =
+pub invariant_of-self : goal.invariant_of-self
+invariant_of-self c =
     let t = c.args.self.now.requirements in
     (ap (every is_module_version) c.remove.ensures.after ∙ formed_without (plain_path_bytes c.plain.result) (requirement_names t) c.args.self.now.formed, tt)
 

@@ -27,8 +27,8 @@ unreachable-requires c =
     let z : ◌≡◌ {A = ℕ} 0 1 = cc in
     absurd (omega arith)
 
-pub invariant-of-result : goal.invariant-of-result
-invariant-of-result c =
+pub invariant_of-result : goal.invariant_of-result
+invariant_of-result c =
     let xs = map row_names c.args.rows.now in
     let few : length xs ≤ 256 = simp length-map c.requires.0 in
     let e = c.in-Some.ensures.value in

@@ -23,8 +23,8 @@ still_formed : (t u : Requirements) (x : ModuleVersion) (b : Bool) → (b ≡ tr
 still_formed t u x true after refused p h = ap (every is_module_version) (after refl) ∙ formed_with x (requirement_names t) p h
 still_formed t u x false after refused p h = ap (λ (v : Requirements). every is_module_version (requirement_names v)) (refused refl) ∙ h
 
-pub invariant-of-self : goal.invariant-of-self
-invariant-of-self c =
+pub invariant_of-self : goal.invariant_of-self
+invariant_of-self c =
     let of = c.args.of.now in
     let t = c.args.self.now.requirements in
     let x = row_names c.row.result in

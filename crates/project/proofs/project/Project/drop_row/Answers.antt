@@ -5,4 +5,4 @@ use Rattle.project.proofs.project.Project.drop_row.Goals as goal
 
 pub returns : goal.returns
 unfolding does
-returns g c = record { value = c.drop-row.ensures.value (exclusion_names c.args.self.now.layer.exclusions); same = refl }
+returns g c = record { value = c.drop_row.ensures.value (exclusion_names c.args.self.now.layer.exclusions); same = refl }

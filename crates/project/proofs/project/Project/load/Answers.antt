@@ -10,8 +10,8 @@ use Rattle.project.proofs.project.Project.load.Goals as goal
 pub returns-in-Ok : goal.returns-in-Ok
 unfolding does
 returns-in-Ok g c = record {
-  value = ap (λ (e : Exclusions). accepts (main_state c.in-Ok.loaded.main (exclusion_names e))) c.replace-exclusions.ensures.after ∙ c.in-Ok.ensures.value (state_of c.args.self.now);
-  same = c.replace-exclusions.ensures.same;
+  value = ap (λ (e : Exclusions). accepts (main_state c.in-Ok.loaded.main (exclusion_names e))) c.replace_exclusions.ensures.after ∙ c.in-Ok.ensures.value (state_of c.args.self.now);
+  same = c.replace_exclusions.ensures.same;
 }
 
 pub returns-in-Err : goal.returns-in-Err

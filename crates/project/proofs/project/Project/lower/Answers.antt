@@ -22,8 +22,8 @@ use Rattle.project.proofs.Insides.{same_exclusions, same_below}
 use Rattle.project.proofs.Lowering.{lower_is}
 use Rattle.project.proofs.project.Project.lower.Goals as goal
 
-pub take-rows-requires : goal.take-rows-requires
-take-rows-requires g c = c.in-Ok.ensures.formed
+pub take_rows-requires : goal.take_rows-requires
+take_rows-requires g c = c.in-Ok.ensures.formed
 
 pub returns-in-Ok : goal.returns-in-Ok
 returns-in-Ok g c =
@@ -43,12 +43,12 @@ returns-in-Ok g c =
     let last = c.lower.new.source in
     let h = c.in-Ok.ensures in
     let excluded = same_exclusions _ _ _ _ h.inside in
-    let t : State = main_state c.take-rows.new.self (exclusion_names last.exclusions) in
+    let t : State = main_state c.take_rows.new.self (exclusion_names last.exclusions) in
     let path = c.path.ensures.value in
     let reply = h.value ∙ ap (λ (x : Path). (lowers_from (seen_by (path_bytes x) (excluding es m)) start p v n).reply) path in
     let kept = h.kept ∙ ap (λ (x : Path). (lowers_from (seen_by (path_bytes x) (excluding es m)) start p v n).kept) path in
     let slices = h.after ∙ ap (λ (x : Path). (lowers_from (seen_by (path_bytes x) (excluding es m)) start p v n).slices) path in
-    let value = lower_is m s t p v n start (reply_of (Ok c.in-Ok.lowered)) (kept_of (Ok c.in-Ok.lowered)) (slices_of c.lower.new.sheet c.lower.new.list) e (λ i. record { main = path_bytes (c.take-rows.ensures.same i); rows = requirement_names (c.take-rows.ensures.after i); exclusions = excluded i }) reply kept slices in
+    let value = lower_is m s t p v n start (reply_of (Ok c.in-Ok.lowered)) (kept_of (Ok c.in-Ok.lowered)) (slices_of c.lower.new.sheet c.lower.new.list) e (λ i. record { main = path_bytes (c.take_rows.ensures.same i); rows = requirement_names (c.take_rows.ensures.after i); exclusions = excluded i }) reply kept slices in
     let right = right_at m (g.S.Source.lawful q.layer.below) s in
     record {
       value = value;

@@ -14,18 +14,18 @@ use Rattle.shelf.specs.Laws.{shelf_formed}
 use Rattle.shelf.specs.Records.{records, record_version, shelf_meaning}
 use Rattle.shelf.proofs.questions.ShelfListingSource.versions.Goals as goal
 
-pub list-versions-requires : goal.list-versions-requires
-list-versions-requires c = shelf_formed c.args.self.now.bytes.now c.args.self.now.ok
+pub list_versions-requires : goal.list_versions-requires
+list_versions-requires c = shelf_formed c.args.self.now.bytes.now c.args.self.now.ok
 
 pub returns : goal.returns
 returns c =
     let n = length c.args.versions.now in
     let table : Bytes → List Bytes = λ p. version_table (versions_in record_version p (records (pairs_in c.args.self.now.bytes.now))) in
-    let is : listing_answer (option_map listing_bytes c.list-versions.result) ≡ (shelf_meaning c.args.self.now.bytes.now).listing (path_bytes c.args.of.now)
-    = ap listing_answer (c.list-versions.ensures.value ∙ ap (λ p. fitting 64 (table p)) c.as-bytes.ensures.value) ∙ sym (answers_listing (table (path_bytes c.args.of.now))) in
+    let is : listing_answer (option_map listing_bytes c.list_versions.result) ≡ (shelf_meaning c.args.self.now.bytes.now).listing (path_bytes c.args.of.now)
+    = ap listing_answer (c.list_versions.ensures.value ∙ ap (λ p. fitting 64 (table p)) c.as_bytes.ensures.value) ∙ sym (answers_listing (table (path_bytes c.args.of.now))) in
     record {
       same = refl;
       inside = refl;
-      value = c.answer-listing.ensures.value ∙ ap (λ a. (told blank_version n a).answer) is;
-      items = c.answer-listing.ensures.items ∙ ap (λ a. (told blank_version n a).slice) is;
+      value = c.answer_listing.ensures.value ∙ ap (λ a. (told blank_version n a).answer) is;
+      items = c.answer_listing.ensures.items ∙ ap (λ a. (told blank_version n a).slice) is;
     }

@@ -18,8 +18,8 @@ returns-then-rows-lt64 c =
     c.if-rows-lt64.true c.blank.ensures c.refuse.ensures.value c.refuse.ensures.items in
     record { same = refl; inside = refl; value = value; items = items }
 
-pub copy-rows-requires : goal.copy-rows-requires
-copy-rows-requires c =
+pub copy_rows-requires : goal.copy_rows-requires
+copy_rows-requires c =
     let bs = c.args.self.now.bytes.now in
     let x = names_of c.args.of.now in
     let rs = rows_at (pairs_in c.in-Some.record.now) in
@@ -33,7 +33,7 @@ returns-in-Some c =
     let x = names_of c.args.of.now in
     let rs = rows_at (pairs_in c.in-Some.record.now) in
     let is = record_found (first_of is_record_of x (records (pairs_in bs))) rs c.in-Some.ensures.value in
-    let (value, items) = rows_told (length c.args.rows.now) c.copy-rows.result ((shelf_meaning bs).requirements x) rs _ c.if-rows-lt64.false is c.copy-rows.ensures.value c.copy-rows.ensures.items in
+    let (value, items) = rows_told (length c.args.rows.now) c.copy_rows.result ((shelf_meaning bs).requirements x) rs _ c.if-rows-lt64.false is c.copy_rows.ensures.value c.copy_rows.ensures.items in
     record { same = refl; inside = refl; value = value; items = items }
 
 pub returns-in-None : goal.returns-in-None

@@ -4,9 +4,9 @@ use Rattle.std.proofs.lemmas.Bool.{cond-true, cond-false}
 use Rattle.shelf.specs.Grammar.{opening}
 use Rattle.shelf.proofs.shelf.Shelf.open.Goals as goal
 
-pub invariant-of-self : goal.invariant-of-self
+pub invariant_of-self : goal.invariant_of-self
 unfolding opening
-invariant-of-self c = (sym (ap is_ok c.in-Ok.ensures.value), tt)
+invariant_of-self c = (sym (ap is_ok c.in-Ok.ensures.value), tt)
 
 pub returns-in-Ok : goal.returns-in-Ok
 unfolding opening

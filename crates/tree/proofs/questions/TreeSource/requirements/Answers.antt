@@ -24,8 +24,8 @@ returns-in-Some c =
     record {
       same = refl;
       inside = refl;
-      value = c.read-manifest.ensures.value ∙ ap (λ a. (told blank n a).answer) is;
-      items = c.read-manifest.ensures.items ∙ ap (λ a. (told blank n a).slice) is;
+      value = c.read_manifest.ensures.value ∙ ap (λ a. (told blank n a).answer) is;
+      items = c.read_manifest.ensures.items ∙ ap (λ a. (told blank n a).slice) is;
     }
 
 pub returns-in-None : goal.returns-in-None

@@ -5,6 +5,6 @@ use Rattle.fields.specs.Openings.{opened}
 use Rattle.tree.specs.Grammar.{opening}
 use Rattle.tree.proofs.tree.Tree.empty.Goals as goal
 
-pub invariant-of-result : goal.invariant-of-result
+pub invariant_of-result : goal.invariant_of-result
 unfolding opening opened pieces cuts
-invariant-of-result c = (refl, tt)
+invariant_of-result c = (refl, tt)

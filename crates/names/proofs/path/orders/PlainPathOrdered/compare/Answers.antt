@@ -5,4 +5,4 @@ use Rattle.names.proofs.path.orders.PlainPathOrdered.compare.Goals as goal
 
 pub returns : goal.returns
 unfolding path_order
-returns c = c.compare-bytes.ensures ∙ ap₂ dictionary c.as-bytes.ensures c.as-bytes-2.ensures
+returns c = c.compare_bytes.ensures ∙ ap₂ dictionary c.as_bytes.ensures c.as_bytes-2.ensures

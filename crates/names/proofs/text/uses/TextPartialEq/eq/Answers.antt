@@ -8,6 +8,6 @@ use Rattle.std.proofs.lemmas.Bool.Decides.{Decides-eqb}
 pub returns : goal.returns
 returns c =
     let d = slice_eq-Decides Decides-eqb _ _ _ c.eq.ensures in (
-      λ t. same_text c.args.self.now c.args.other.now (sym c.as-bytes.ensures ∙ d.0 t ∙ c.as-bytes-2.ensures),
-      λ e. d.1 (c.as-bytes.ensures ∙ ap text_bytes e ∙ sym c.as-bytes-2.ensures),
+      λ t. same_text c.args.self.now c.args.other.now (sym c.as_bytes.ensures ∙ d.0 t ∙ c.as_bytes-2.ensures),
+      λ e. d.1 (c.as_bytes.ensures ∙ ap text_bytes e ∙ sym c.as_bytes-2.ensures),
     )
