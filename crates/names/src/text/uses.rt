@@ -4,8 +4,8 @@ ghost use Rattle.std.specs.Bool.{then_some};
 ghost use Rattle.names.specs.Padding.{Padded};
 ghost use Rattle.names.specs.Texts.{text_bytes};
 ghost use Rattle.std.specs.Cmp.Rules.{comparing};
-ghost use Rattle.std.proofs.Common.{rules, arith};
-ghost use Rattle.std.specs.Cmp as Keys;
+ghost use Rattle.std.specs.Str.{bytes_eq};
+ghost use Rattle.std.proofs.Common.{rules};
 
 use super::Text;
 
@@ -46,16 +46,20 @@ impl Text {
     }
 }
 
+// Two texts are equal exactly if they are the same value.
 impl PartialEq for Text {
-    ghost equals = { λ x y r. Decides r (x ≡ y) };
+    ghost eq = { λ x y. bytes_eq (text_bytes x) (text_bytes y) };
 
-    ghost laws = { Keys.partial_equiv_from_equiv (first_of (Prim.search (comparing, rules), Prim.grind (arith, Self.row.coded.inj))) };
+    ghost laws = { Prim.search (comparing, rules) };
 
-    fn eq(&self, other: &Text) -> bool {
+    fn eq(&self, other: &Text) -> bool
+        ensures value { result ≡ bytes_eq (text_bytes self.now) (text_bytes other.now) }
+        ensures same { Decides result (self.now ≡ other.now) }
+    {
         self.as_bytes() == other.as_bytes()
     }
 }
 
 impl Eq for Text {
-    ghost laws = { first_of (Prim.search (comparing, rules), Prim.grind (arith, Self.row.coded.inj)) };
+    ghost laws = { Prim.search (comparing, rules) };
 }

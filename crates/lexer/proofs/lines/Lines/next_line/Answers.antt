@@ -10,7 +10,7 @@ invariant_of-self c =
     let self = c.args.self.now in
     let w = first_within self.text.now self.at c.first_line_of-line.result.now c.if-self.false c.first_line_of-line.ensures.value in
     let n : self.line ≤ self.at = self.counted in
-    (omega arith, (omega arith, tt))
+    record { within = omega arith; counted = omega arith }
 
 pub returns : goal.returns
 returns c =

@@ -14,11 +14,11 @@ written c =
 
 pub invariant_of-self : goal.invariant_of-self
 invariant_of-self c =
-    let t = held c.args.self.now.table in (
-      ascending_keys row_path plain_path_order t (held c.with_items-self.result)
-          (ap (map row_path) (written c) ∙ keys_set row_path plain_path_order t c.args.at c.args.row c.requires.0 c.requires.1) c.args.self.now.ascending,
-      tt,
-    )
+    let t = held c.args.self.now.table in
+    record {
+      ascending = ascending_keys row_path plain_path_order t (held c.with_items-self.result)
+          (ap (map row_path) (written c) ∙ keys_set row_path plain_path_order t c.args.at c.args.row c.requires.0 c.requires.1) c.args.self.now.ascending;
+    }
 
 pub returns : goal.returns
 returns c =

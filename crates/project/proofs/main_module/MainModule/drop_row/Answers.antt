@@ -17,7 +17,7 @@ use Rattle.project.proofs.main_module.MainModule.drop_row.Goals as goal
 pub invariant_of-self : goal.invariant_of-self
 invariant_of-self c =
     let t = c.args.self.now.requirements in
-    (ap (every is_module_version) c.remove.ensures.after ∙ formed_without (plain_path_bytes c.plain.result) (requirement_names t) c.args.self.now.formed, tt)
+    record { formed = ap (every is_module_version) c.remove.ensures.after ∙ formed_without (plain_path_bytes c.plain.result) (requirement_names t) c.args.self.now.formed }
 
 pub returns-in-Some : goal.returns-in-Some
 returns-in-Some c =

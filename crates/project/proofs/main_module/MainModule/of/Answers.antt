@@ -34,7 +34,7 @@ invariant_of-result c =
     let e = c.in-Some.ensures.value in
     let r = room xs few in
     let same : requirement_names c.in-Some.requirements ≡ table xs = cc in
-    (ap (every is_module_version) same ∙ formed_table xs c.requires.1, tt)
+    record { formed = ap (every is_module_version) same ∙ formed_table xs c.requires.1 }
 
 pub returns : goal.returns
 returns c =

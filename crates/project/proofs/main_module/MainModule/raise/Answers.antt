@@ -29,7 +29,7 @@ invariant_of-self c =
     let t = c.args.self.now.requirements in
     let x = row_names c.row.result in
     let same : x ≡ names_of of = ap row_names c.row.ensures in
-    (still_formed t c.raise.new.self x (is_ok c.raise.result) c.raise.ensures.after c.raise.ensures.refused (ap is_module_version same ∙ formed_names of) c.args.self.now.formed, tt)
+    record { formed = still_formed t c.raise.new.self x (is_ok c.raise.result) c.raise.ensures.after c.raise.ensures.refused (ap is_module_version same ∙ formed_names of) c.args.self.now.formed }
 
 pub returns-in-Ok : goal.returns-in-Ok
 returns-in-Ok c =

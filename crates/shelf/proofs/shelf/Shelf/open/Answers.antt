@@ -6,7 +6,7 @@ use Rattle.shelf.proofs.shelf.Shelf.open.Goals as goal
 
 pub invariant_of-self : goal.invariant_of-self
 unfolding opening
-invariant_of-self c = (sym (ap is_ok c.in-Ok.ensures.value), tt)
+invariant_of-self c = record { ok = sym (ap is_ok c.in-Ok.ensures.value) }
 
 pub returns-in-Ok : goal.returns-in-Ok
 unfolding opening

@@ -7,4 +7,4 @@ use Rattle.tree.proofs.tree.Tree.empty.Goals as goal
 
 pub invariant_of-result : goal.invariant_of-result
 unfolding opening opened pieces cuts
-invariant_of-result c = (refl, tt)
+invariant_of-result c = record { ok = refl }
