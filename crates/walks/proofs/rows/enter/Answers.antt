@@ -22,7 +22,7 @@ returns-then-is_lower c =
     let i = c.in-Ok.at in
     let fits : n ≤ length rows = omega arith in
     let lt = in_front rows n i c.requires c.in-Ok.ensures.items in
-    let e = enter_lower rows n c.args.row i (searched rows n c.args.row (Ok i) c.in-Ok.ensures.value) lt fits c.index-rows_at.result c.if-is_lower.ensures.value in
+    let e = enter_lower rows n c.args.row i (searched rows n c.args.row (Ok i) c.in-Ok.ensures.value) lt fits c.index-rows-at.result c.if-is_lower.ensures.value in
     record { value = counted rows n _ fits e; after = e }
 
 pub returns-else-is_lower : goal.returns-else-is_lower
@@ -33,7 +33,7 @@ returns-else-is_lower c =
     let x = c.args.row in
     let fits : n ≤ length rows = omega arith in
     let lt = in_front rows n i c.requires c.in-Ok.ensures.items in
-    let e = enter_higher rows n x i (searched rows n x (Ok i) c.in-Ok.ensures.value) lt fits c.index-rows_at.result c.if-is_lower.ensures.value in
+    let e = enter_higher rows n x i (searched rows n x (Ok i) c.in-Ok.ensures.value) lt fits c.index-rows-at.result c.if-is_lower.ensures.value in
     let fits_set : n ≤ length (set rows i x) = omega (arith, length-set rows i x) in
     record { value = counted (set rows i x) n _ fits_set e; after = e }
 

@@ -10,7 +10,7 @@ written : (c : goal.After-with_items-self) → held c.with_items-self.result ≡
 written c =
     let t = held c.args.self.now.table in
     c.with_items-self.ensures.value
-    ∙ lifted c.items-rows.result t (length t) c.args.at c.index-rows_at.result c.args.row c.lift.new.self c.items-rows.ensures.items c.requires.0 c.requires.0 c.requires.1 c.lift.ensures.after
+    ∙ lifted c.items-rows.result t (length t) c.args.at c.index-rows-at.result c.args.row c.lift.new.self c.items-rows.ensures.items c.requires.0 c.requires.0 c.requires.1 c.lift.ensures.after
 
 pub invariant_of-self : goal.invariant_of-self
 invariant_of-self c =
@@ -25,5 +25,5 @@ returns c =
     let t = held c.args.self.now.table in
     record {
       after = c.with_items-self.ensures.value
-          ∙ lifted c.items-rows.result t (length t) c.args.at c.index-rows_at.result c.args.row c.lift.new.self c.items-rows.ensures.items c.requires.0 c.requires.0 c.requires.1 c.lift.ensures.after;
+          ∙ lifted c.items-rows.result t (length t) c.args.at c.index-rows-at.result c.args.row c.lift.new.self c.items-rows.ensures.items c.requires.0 c.requires.0 c.requires.1 c.lift.ensures.after;
     }

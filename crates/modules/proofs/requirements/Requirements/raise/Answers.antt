@@ -20,12 +20,12 @@ returns-then-is_upto c =
     let t = held c.args.self.now.table in
     let row = c.args.row in
     let i = c.in-Ok.at in
-    let d = c.index-rows_at.result in
+    let d = c.index-rows-at.result in
     let s = c.as_slice-rows.ensures.value in
     let e : Ok i ≡ sought row_path plain_path_order row.path t = c.in-Ok.ensures.value ∙ ap (sought row_path plain_path_order row.path) s in
     let h : i < length t = subst (λ (xs : List Row). i < length xs) s c.in-Ok.ensures.items in
     record {
-      value = told_upto t row i e h d (read c.as_slice-rows.result.now t row i d true s c.index-rows_at.is c.if-is_upto.ensures.value);
+      value = told_upto t row i e h d (read c.as_slice-rows.result.now t row i d true s c.index-rows-at.is c.if-is_upto.ensures.value);
       after = λ q. cc;
       refused = λ q. refl;
     }
@@ -45,11 +45,11 @@ returns-else-is_upto c =
     let t = held c.args.self.now.table in
     let row = c.args.row in
     let i = c.in-Ok.at in
-    let d = c.index-rows_at.result in
+    let d = c.index-rows-at.result in
     let s = c.as_slice-rows.ensures.value in
     let e : Ok i ≡ sought row_path plain_path_order row.path t = c.in-Ok.ensures.value ∙ ap (sought row_path plain_path_order row.path) s in
     let h : i < length t = subst (λ (xs : List Row). i < length xs) s c.in-Ok.ensures.items in
-    let up = read c.as_slice-rows.result.now t row i d false s c.index-rows_at.is c.if-is_upto.ensures.value in
+    let up = read c.as_slice-rows.result.now t row i d false s c.index-rows-at.is c.if-is_upto.ensures.value in
     record {
       value = told_higher t row i e h d up;
       after = λ q. ap (map row_names) c.lift.ensures.after ∙ set_higher t row i e h d up;
