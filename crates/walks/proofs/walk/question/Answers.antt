@@ -34,7 +34,7 @@ checked-of-requires g c =
     let one : 1 ≤ i = omega arith in
     let fits : n ≤ length ps = omega arith in
     subst (λ (x : ModuleVersion). is_module_version x ≡ true) (sym (row_at ps n i c.index-sheet-at.result lt fits))
-    (c.requires.1 i (get_or (map place_of (take n ps)) i blank_place) one (reads (remaining w) i (map place_of (take n ps)) (in_front ps n i lt fits)))
+    (c.requires.formed i (get_or (map place_of (take n ps)) i blank_place) one (reads (remaining w) i (map place_of (take n ps)) (in_front ps n i lt fits)))
 
 pub slice_bounds-write_rows-end : goal.slice_bounds-write_rows-end
 slice_bounds-write_rows-end g c =
