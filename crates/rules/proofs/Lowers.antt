@@ -2,7 +2,7 @@
 use Rattle.std.proofs.Common.{◌≡◌, Bool, true, not, ◌&&◌, ◌⊎◌, List, sym, refl, ap, ◌∙◌, subst, inl, inr, ⊎_elim, arith}
 use Rattle.std.proofs.lemmas.Bool.{and_from, and_parts, not-true}
 use Rattle.rules.specs.Orders.{Bytes}
-use Rattle.rules.specs.Names.{ModuleVersion, same_path, has, Stands, ◌∈◌, at}
+use Rattle.rules.specs.Names.{ModuleVersion, same_path, has, Stands, ◌∈◌}
 use Rattle.rules.specs.Sources.{found, Meaning, Lawful}
 use Rattle.rules.specs.Projects.{State, main_row, off_main, View, view, Requires, Reached, Few, with_rows}
 use Rattle.rules.specs.Walks.{Place, module_versions, done, list_walk}

@@ -1,10 +1,9 @@
 -- A manifest written plainly: the bytes of its lines, and their words. Assumes nothing.
-use Rattle.std.proofs.Common.{◌≡◌, ℕ, ◌≤◌, Bool, true, false, cond, not, ◌&&◌, ◌||◌, eqb, leb, List, [], ◌∷◌, ◌++◌, length, Ok, Err, sym, refl, ap, ◌∙◌, ap₂, ⊎_elim, arith}
-use Rattle.std.proofs.lemmas.List.{append_assoc}
+use Rattle.std.proofs.Common.{◌≡◌, ℕ, ◌≤◌, Bool, true, false, cond, not, ◌&&◌, ◌||◌, eqb, leb, List, [], ◌∷◌, ◌++◌, length, Err, sym, refl, ap, ◌∙◌, ap₂, ⊎_elim, arith}
 use Rattle.std.proofs.lemmas.Bool.{cond-true, cond-false, not-true, and_from, and_parts, and_left, and_right, or_cases, or_parts, or_left, or_right, eqb-true}
 use Rattle.std.proofs.lemmas.Bool.Decides.{nat_tests}
 use Rattle.rules.specs.Orders.{Bytes}
-use Rattle.rules.specs.Texts.{dash, dot, slash, digit, letter, every, begun, pieces}
+use Rattle.rules.specs.Texts.{dash, dot, slash, digit, every, begun, pieces}
 use Rattle.rules.specs.Paths.{element_byte, is_element, is_path}
 use Rattle.rules.specs.Versions.{is_number, identifier_byte, is_word, is_identifier, before_dash, behind_dash, is_version}
 use Rattle.rules.specs.Lines.{lines, code, gap, word_byte, Word, text, goes_on, lengthened, words}

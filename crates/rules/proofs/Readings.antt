@@ -7,7 +7,7 @@ use Rattle.rules.specs.Texts.{every}
 use Rattle.rules.specs.Paths.{is_path}
 use Rattle.rules.specs.Versions.{is_version}
 use Rattle.rules.specs.Names.{ModuleVersion, at, is_module_version, ◌∈◌}
-use Rattle.rules.specs.Causes.{Cause, too_long, bad_byte, wrong_shape, bad_path, bad_version, module_line, row_too_many}
+use Rattle.rules.specs.Causes.{Cause, too_long, bad_byte, bad_path, bad_version, module_line, row_too_many}
 use Rattle.rules.specs.Lines.{lines, code, Word, text, words}
 use Rattle.rules.specs.Manifests.{Manifest, Reading, manifest, unread, Verb, Directive, passed, names, go_version, requires_row, excludes_row, opens, closes, directive}
 use Rattle.rules.specs.Manifests.{Progress, unbegun, with_block, with_main, with_required, with_excluded, named, added, obeyed, shaped, good_byte, line_read}

@@ -1,9 +1,9 @@
 -- Worked manifests: texts, with what reading them gives. Examples computes them. Assumes nothing.
-use Rattle.std.specs.Prelude.{ℕ, List, [], ◌∷◌, ◌++◌, map, codes}
+use Rattle.std.specs.Prelude.{List, [], ◌∷◌, codes}
 use Rattle.rules.specs.Orders.{Bytes}
 use Rattle.rules.specs.Names.{ModuleVersion}
 use Rattle.rules.specs.Causes.{bad_byte, wrong_shape, bad_path, bad_version, module_line, row_too_many}
-use Rattle.rules.specs.Manifests.{Manifest, Reading, manifest, unread}
+use Rattle.rules.specs.Manifests.{Reading, manifest, unread}
 
 abbrev pub row : Bytes → Bytes → ModuleVersion
 row p v = record { path = p; version = v }

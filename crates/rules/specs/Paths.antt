@@ -1,7 +1,7 @@
 -- Paths, and their order. Assumes nothing.
 -- A path is 1 to 48 bytes: elements joined by slashes. An element is one or more ASCII letters, digits, dashes, dots, underscores and
 -- tildes, with no dot first or last.
-use Rattle.std.specs.Prelude.{ℕ, Bool, true, false, not, ◌&&◌, ◌||◌, [], ◌∷◌, length, ◌==◌, nat_le}
+use Rattle.std.specs.Prelude.{ℕ, Bool, false, not, ◌&&◌, ◌||◌, [], ◌∷◌, length, ◌==◌, nat_le}
 use Rattle.std.specs.declared.cmp.Ordering.{Ordering}
 use Rattle.rules.specs.Orders.{Bytes, dictionary}
 use Rattle.rules.specs.Texts.{dash, dot, slash, underscore, tilde, digit, letter, every, pieces}

@@ -1,5 +1,5 @@
 -- Texts as lists of bytes: the kinds of bytes, and the pieces of a text. Assumes nothing.
-use Rattle.std.specs.Prelude.{ℕ, Bool, true, false, cond, ◌&&◌, ◌||◌, List, [], ◌∷◌, ◌==◌, nat_le}
+use Rattle.std.specs.Prelude.{ℕ, Bool, true, cond, ◌&&◌, ◌||◌, List, [], ◌∷◌, ◌==◌, nat_le}
 use Rattle.rules.specs.Orders.{Bytes}
 
 abbrev pub dash : ℕ

@@ -1,7 +1,7 @@
 -- Versions, and their order: SemVer precedence. Assumes nothing.
 -- A version is at most 40 bytes: v, three numbers joined by dots, then perhaps a dash and identifiers joined by dots. A number is 0, or
 -- decimal digits with no zero in front. An identifier is one or more ASCII letters, digits and dashes; one that is all digits is a number.
-use Rattle.std.specs.Prelude.{ℕ, ◌+◌, ◌-◌, ◌*◌, Bool, true, false, cond, not, ◌&&◌, ◌||◌, List, [], ◌∷◌, map, length, Some, None, Option, ◌==◌, nat_le}
+use Rattle.std.specs.Prelude.{ℕ, ◌+◌, ◌-◌, ◌*◌, Bool, false, cond, not, ◌&&◌, ◌||◌, List, [], ◌∷◌, map, length, Some, None, Option, ◌==◌, nat_le}
 use Rattle.std.specs.declared.cmp.Ordering.TheVariants.{Less, Equal, Greater}
 use Rattle.std.specs.declared.cmp.Ordering.{Ordering}
 use Rattle.std.specs.Ordering.{is_lt, ordering_then}

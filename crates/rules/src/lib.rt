@@ -1,5 +1,7 @@
 // The rules alone, with no code: specs/ has the definitions of the subject and what is claimed of them. The contract of each function here is
 // one such claim, so that the crate is proved only if the claim is. The functions do nothing.
+#![tactic(auto)]
+
 ghost use Rattle.rules.specs.Names.{OrdersRight};
 ghost use Rattle.rules.specs.Tables.{TablesRight};
 ghost use Rattle.rules.specs.Layers.{LayerRight, FallbackRight, TwoLayersRight, PileRight};
