@@ -1,5 +1,5 @@
 -- In a table of exclusions a look-up finds what is among them, and nothing else. Assumes nothing.
-use Rattle.std.proofs.Common.{◌≡◌, List, map, is_some, Some, None, Option, sym, refl, ap, subst, ⊎_elim}
+use Rattle.std.proofs.Common.{◌≡◌, List, is_some, Some, None, Option, sym, refl, subst, ⊎_elim}
 use Rattle.std.proofs.lemmas.Bool.{cases_Bool}
 use Rattle.rules.specs.Names.{ModuleVersion, module_order, has, ◌∈◌}
 use Rattle.rules.specs.Rows.{own, AscendingExclusions}

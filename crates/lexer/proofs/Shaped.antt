@@ -1,17 +1,16 @@
 -- The first four words of a line, and whether a bracket is among its words, decide what it asks for. Assumes nothing.
-use Rattle.std.proofs.Common.{◌≡◌, ℕ, Bool, true, false, cond, not, List, [], ◌∷◌, map, is_some, Some, None, Option, sym, refl, ap, ◌∙◌, arith}
+use Rattle.std.proofs.Common.{◌≡◌, ℕ, Bool, true, false, not, List, [], ◌∷◌, map, is_some, Some, None, Option, sym, refl, ap, ◌∙◌, arith}
 use Rattle.std.specs.Option.{option_map}
 use Rattle.rules.specs.Orders.{Bytes}
 use Rattle.rules.specs.Lines as R
 use Rattle.rules.specs.Lines.{text, opening, closing}
-use Rattle.rules.specs.Manifests.{Verb, module_verb, go_verb, require_verb, exclude_verb, other_verb, Directive, behind_verb, opens_block, verb_of, plain, opener, lone_opening, lone_closing, outside_block, directive, closes, verb_line, block_line}
+use Rattle.rules.specs.Manifests.{Verb, module_verb, go_verb, require_verb, exclude_verb, other_verb, Directive, behind_verb, verb_of, plain, lone_opening, lone_closing, directive, verb_line, block_line}
 use Rattle.lexer.specs.declared.words.Word.{Word}
-use Rattle.lexer.specs.declared.words.Word.TheVariants.{Text, Open, Close}
 use Rattle.lexer.specs.Lefts.{but_first}
 use Rattle.lexer.specs.Slots.{two_on, Slots}
 use Rattle.lexer.specs.declared.slots.LineWords.{LineWords}
 use Rattle.lexer.specs.Told.{word_of, word_told, next_word}
-use Rattle.lexer.specs.Shapes.{behind_words, verb_words, block_words, opening_words, closing_words, outside_words, inside_words, shape_words}
+use Rattle.lexer.specs.Shapes.{behind_words, shape_words}
 
 abbrev first_word : List R.Word → Option R.Word
 first_word [] = None

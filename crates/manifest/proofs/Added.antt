@@ -1,12 +1,12 @@
 -- A row that is refused. Assumes nothing.
-use Rattle.std.proofs.Common.{◌≡◌, ℕ, Bool, true, false, cond, ltb, List, [], ◌∷◌, ◌++◌, length, Ok, Err, Result, refl, arith}
+use Rattle.std.proofs.Common.{◌≡◌, ℕ, Bool, true, false, cond, ltb, List, [], ◌∷◌, ◌++◌, length, Ok, Err, Result, arith}
 use Rattle.rules.specs.Orders.{Bytes}
 use Rattle.rules.specs.Paths.{is_path}
 use Rattle.rules.specs.Versions.{is_version}
 use Rattle.rules.specs.Names.{ModuleVersion, at}
 use Rattle.rules.specs.Causes as R
 use Rattle.rules.specs.Manifests.{Progress, added}
-use Rattle.manifest.specs.Rows.{put_read, row_added}
+use Rattle.manifest.specs.Rows.{row_added}
 
 -- with the answers of the three checks as they may come
 pub not_added : (most : ℕ) (xs : List ModuleVersion) (next : ModuleVersion → Progress) (m v : Bytes) (c : R.Cause) → Err c ≡ row_added most xs m v

@@ -1,5 +1,5 @@
 -- What is read into the slices is well formed. Assumes nothing.
-use Rattle.std.proofs.Common.{◌≡◌, ℕ, ◌-◌, List, ◌++◌, length, take, replicate, Ok, Err, Result, sym, refl, ap, ◌∙◌, subst, ap₂, arith}
+use Rattle.std.proofs.Common.{◌≡◌, ℕ, ◌-◌, List, length, take, replicate, Ok, Result, sym, refl, ap, ◌∙◌, subst, ap₂, arith}
 use Rattle.std.proofs.lemmas.List.{take_at}
 use Rattle.rules.specs.Orders.{Bytes}
 use Rattle.rules.specs.Names.{ModuleVersion}
@@ -10,7 +10,7 @@ use Rattle.rules.proofs.Readings.{well_formed}
 use Rattle.modules.specs.declared.rows.Row.{Row}
 use Rattle.names.specs.Paths.{path_bytes}
 use Rattle.manifest.specs.declared.kinds.Manifest.{Manifest}
-use Rattle.manifest.specs.Holds.{names_in, names_read, Left}
+use Rattle.manifest.specs.Holds.{names_read, Left}
 use Rattle.manifest.specs.Outcomes.{Counts, outcome, counted, require_rows, exclude_rows, manifest_in}
 
 -- the first n rows of a slice that is left with n rows

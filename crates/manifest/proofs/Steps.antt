@@ -1,5 +1,5 @@
 -- A manifest stops at a line that is refused. Assumes nothing.
-use Rattle.std.proofs.Common.{◌≡◌, ℕ, ◌+◌, List, [], ◌∷◌, Some, Err, sym, refl, ap, ◌∙◌, arith}
+use Rattle.std.proofs.Common.{◌≡◌, ℕ, ◌+◌, List, [], ◌∷◌, Some, Err, sym, ap, ◌∙◌, arith}
 use Rattle.rules.specs.Orders.{Bytes}
 use Rattle.rules.specs.Causes as R
 use Rattle.rules.specs.Lines.{code}

@@ -1,5 +1,5 @@
 -- What a second check leaves where it fails, whatever the first said. Assumes nothing.
-use Rattle.std.proofs.Common.{◌≡◌, ℕ, Bool, true, false, ◌&&◌, Some, None, Option, refl, arith}
+use Rattle.std.proofs.Common.{◌≡◌, ℕ, Bool, true, false, ◌&&◌, None, refl, arith}
 use Rattle.std.specs.Bool.{then_some}
 
 pub second_refused : {A B : Type 0} (first second : Bool) (x : A) (y : B) → None ≡ then_some second y → None ≡ then_some (first && second) x

@@ -1,11 +1,10 @@
 -- A text that passes byte by byte is one whose elements are well formed. Assumes nothing.
-use Rattle.std.proofs.Common.{◌≡◌, ℕ, Bool, true, false, cond, not, ◌&&◌, ◌||◌, eqb, List, [], ◌∷◌, sym, refl, ap, ◌∙◌, ap₂, arith}
+use Rattle.std.proofs.Common.{◌≡◌, ℕ, Bool, true, false, not, ◌&&◌, eqb, List, [], ◌∷◌, refl, ap, ◌∙◌}
 use Rattle.std.proofs.lemmas.Bool.{eqb-true}
-use Rattle.std.proofs.lemmas.Bool.Decides.{nat_tests}
 use Rattle.rules.specs.Orders.{Bytes}
 use Rattle.rules.specs.Texts.{dot, slash, every, begun, pieces}
 use Rattle.rules.specs.Paths.{element_byte, last_byte, is_element}
-use Rattle.names.specs.Scans.{at_edge, follows, scan}
+use Rattle.names.specs.Scans.{scan}
 
 -- the rest of an element that p is the last byte of so far
 abbrev goes_on : ℕ → Bytes → Bool

@@ -1,8 +1,7 @@
 -- What `cmp` answers on bytes is the order of texts by their bytes. Assumes nothing.
-use Rattle.std.proofs.Common.{◌≡◌, ℕ, List, [], ◌∷◌, Ordering, refl, ◌∙◌, ap₂, arith}
+use Rattle.std.proofs.Common.{◌≡◌, ℕ, List, [], ◌∷◌, Ordering, refl, ◌∙◌, ap₂}
 use Rattle.std.specs.Ordering.{nat_cmp, ordering_then}
 use Rattle.std.specs.Cmp.Lexicographic.{slice_cmp}
-use Rattle.std.proofs.lemmas.Bool.Decides.{nat_tests}
 use Rattle.rules.specs.Orders.{number_order, lexical, dictionary}
 
 by_says : (a b : ℕ) → nat_cmp a b ≡ number_order a b

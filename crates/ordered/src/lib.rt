@@ -1,5 +1,7 @@
 // Things in an order, and tables that ascend by a key. Nothing here knows what the things are.
 // The contract of each function here is a theorem of specs/, so that the crate is proved only if the theorem is.
+#![tactic(auto)]
+
 ghost use Rattle.ordered.specs.Ascents.{AscentsRight};
 ghost use Rattle.ordered.specs.Places.{PlacesRight};
 

@@ -1,5 +1,5 @@
 -- A body as it is read, told as a source's answer. Assumes nothing.
-use Rattle.std.proofs.Common.{◌≡◌, ℕ, Bool, true, false, cond, ◌&&◌, leb, List, length, Ok, Err, Result, sym, refl, ap, ◌∙◌}
+use Rattle.std.proofs.Common.{◌≡◌, ℕ, Bool, true, false, cond, ◌&&◌, leb, List, length, Ok, Err, Result, refl, ap, ◌∙◌}
 use Rattle.rules.specs.Orders.{Bytes}
 use Rattle.rules.specs.Causes as R
 use Rattle.rules.specs.Names.{ModuleVersion}

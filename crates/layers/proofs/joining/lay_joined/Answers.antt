@@ -1,8 +1,8 @@
-use Rattle.std.proofs.Common.{◌≡◌, ℕ, ◌-◌, ◌≤◌, map, length, take, Some, None, sym, refl, ap, ◌∙◌, arith}
+use Rattle.std.proofs.Common.{◌≡◌, ℕ, ◌-◌, ◌≤◌, map, length, take, sym, refl, ap, ◌∙◌, arith}
 use Rattle.std.proofs.lemmas.List.{length-map, take_all}
 use Rattle.rules.specs.Rows.{joined_versions}
 use Rattle.rules.specs.Slices.{blank_version, filled}
-use Rattle.rules.specs.Sources.{found, fault, at_most_64, over_64}
+use Rattle.rules.specs.Sources.{found, at_most_64, over_64}
 use Rattle.versions.specs.Values.{plain_version_bytes}
 use Rattle.modules.specs.Tables.{listing_bytes}
 use Rattle.ordered.specs.Held.{fitting}

@@ -1,5 +1,5 @@
 -- The slots decide. Assumes nothing.
-use Rattle.std.proofs.Common.{◌≡◌, Some, None, sym, ap, ◌∙◌}
+use Rattle.std.proofs.Common.{Some, None, sym, ap, ◌∙◌}
 use Rattle.std.specs.Option.{option_map}
 use Rattle.rules.specs.Lines.{words}
 use Rattle.rules.specs.Manifests.{directive}

@@ -1,5 +1,5 @@
 -- Each slot is the first of what the ones before it leave. Assumes nothing.
-use Rattle.std.proofs.Common.{◌≡◌, not, sym, refl, ap, ◌∙◌, rules}
+use Rattle.std.proofs.Common.{not, sym, ap, ◌∙◌, rules}
 use Rattle.lexer.proofs.Unbracketed.{plain_words}
 use Rattle.lexer.proofs.slots.line_words.Goals as goal
 

@@ -1,5 +1,5 @@
 -- A row that is refused ends it. Assumes nothing.
-use Rattle.std.proofs.Common.{◌≡◌, sym, ap, ◌∙◌}
+use Rattle.std.proofs.Common.{sym, ap, ◌∙◌}
 use Rattle.std.proofs.lemmas.Result.{err_from_is_err_and}
 use Rattle.rules.specs.Manifests.{with_required, with_excluded, obeyed}
 use Rattle.lexer.specs.Told.{directive_told}

@@ -1,5 +1,5 @@
 -- What is read is well formed. Assumes nothing.
-use Rattle.std.proofs.Common.{◌≡◌, length, subst, rules}
+use Rattle.std.proofs.Common.{length, subst, rules}
 use Rattle.std.proofs.lemmas.Bool.{cond-true, le-leb}
 use Rattle.rules.specs.Lines.{lines}
 use Rattle.rules.specs.Manifests.{unbegun, lines_read, WellFormed}

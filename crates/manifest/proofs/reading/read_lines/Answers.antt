@@ -1,5 +1,5 @@
 -- A line that is refused ends it. Assumes nothing.
-use Rattle.std.proofs.Common.{◌≡◌, Err, sym, ap, ◌∙◌}
+use Rattle.std.proofs.Common.{Err, sym, ap, ◌∙◌}
 use Rattle.causes.specs.Told.{cause_of}
 use Rattle.lexer.specs.Lefts.{lines_left, line_told}
 use Rattle.manifest.specs.Outcomes.{reading_told}

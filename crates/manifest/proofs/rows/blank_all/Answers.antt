@@ -1,5 +1,5 @@
 -- A copy of a row is that row. Assumes nothing.
-use Rattle.std.proofs.Common.{◌≡◌, length, replicate, ap, ◌∙◌}
+use Rattle.std.proofs.Common.{length, replicate, ap, ◌∙◌}
 use Rattle.manifest.specs.Holds.{names_in}
 use Rattle.manifest.proofs.Held.{names_replicate}
 use Rattle.manifest.proofs.rows.blank_all.Goals as goal

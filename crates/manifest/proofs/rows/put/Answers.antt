@@ -1,5 +1,5 @@
 -- There is room for one row more, or there is none. Assumes nothing.
-use Rattle.std.proofs.Common.{arith, rules}
+use Rattle.std.proofs.Common.{arith}
 use Rattle.manifest.proofs.Held.{no_more, one_more, holds_more}
 use Rattle.manifest.proofs.rows.put.Goals as goal
 

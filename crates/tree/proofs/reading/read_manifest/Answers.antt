@@ -1,6 +1,5 @@
 -- The manifest is read, or refused. Assumes nothing.
 use Rattle.std.proofs.Common.{length}
-use Rattle.manifest.specs.Outcomes.{outcome}
 use Rattle.tree.proofs.Manifested.{body_counted, body_laid}
 use Rattle.tree.proofs.reading.read_manifest.Goals as goal
 

@@ -7,7 +7,6 @@ use Rattle.rules.specs.Slices.{Slices, blank, blank_place, filled}
 use Rattle.rules.proofs.Slices.{long_sheet, long_list}
 use Rattle.names.specs.Paths.{path_bytes}
 use Rattle.modules.specs.Rows.{row_names, names_of}
-use Rattle.walks.specs.declared.place.Place.{Place}
 use Rattle.walks.specs.Places.{place_of}
 use Rattle.walks.specs.Views.{bare, seen_by}
 use Rattle.walks.specs.Listed.{lent}

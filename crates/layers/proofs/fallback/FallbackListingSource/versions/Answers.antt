@@ -1,6 +1,6 @@
-use Rattle.std.proofs.Common.{◌≤◌, ◌++◌, map, length, take, refl, ap, ◌∙◌, ap₂, arith}
+use Rattle.std.proofs.Common.{◌≤◌, ◌++◌, map, length, take, refl, ◌∙◌, ap₂, arith}
 use Rattle.rules.specs.Slices.{blank_version}
-use Rattle.rules.specs.Sources.{found, falling_back}
+use Rattle.rules.specs.Sources.{falling_back}
 use Rattle.rules.specs.Questions.{told}
 use Rattle.names.specs.Paths.{path_bytes}
 use Rattle.versions.specs.Values.{plain_version_bytes}

@@ -1,7 +1,7 @@
 -- A line more is read. Assumes nothing.
-use Rattle.std.proofs.Common.{◌≡◌, ◌+◌, ◌≤◌, List, ◌∷◌, length, Some, sym, refl, ap, ◌∙◌, arith}
+use Rattle.std.proofs.Common.{◌+◌, ◌≤◌, Some, sym, refl, ap, ◌∙◌, arith}
 use Rattle.rules.specs.Orders.{Bytes}
-use Rattle.lexer.specs.Lefts.{lines_from, next_line, but_first}
+use Rattle.lexer.specs.Lefts.{next_line, but_first}
 use Rattle.lexer.proofs.Pieced.{first_within, lines_next}
 use Rattle.lexer.proofs.lines.Lines.next_line.Goals as goal
 

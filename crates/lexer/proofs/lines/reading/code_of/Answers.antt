@@ -1,5 +1,5 @@
 -- The loop stops at a comment or at the end. Assumes nothing.
-use Rattle.std.proofs.Common.{◌≡◌, sym, ap, ◌∙◌, arith}
+use Rattle.std.proofs.Common.{sym, ap, ◌∙◌, arith}
 use Rattle.std.proofs.lemmas.List.{take_rest}
 use Rattle.lexer.specs.Cuts.{begins_with_comment}
 use Rattle.lexer.proofs.Coded.{code_more, code_stops, code_all}

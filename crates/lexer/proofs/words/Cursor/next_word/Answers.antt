@@ -1,6 +1,6 @@
 -- A word more is read: behind the gaps stand a bracket, a text or nothing. Assumes nothing.
-use Rattle.std.proofs.Common.{◌≡◌, [], ◌∷◌, sym, refl, ap, ◌∙◌, rules}
-use Rattle.rules.specs.Lines.{words, Word}
+use Rattle.std.proofs.Common.{◌≡◌, [], sym, refl, ap, ◌∙◌, rules}
+use Rattle.rules.specs.Lines.{words}
 use Rattle.lexer.specs.Lefts.{but_first}
 use Rattle.lexer.specs.Told.{next_word}
 use Rattle.lexer.proofs.Spelled.{no_word, at_opening, at_closing, at_text}

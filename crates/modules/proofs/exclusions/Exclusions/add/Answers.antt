@@ -5,7 +5,6 @@ use Rattle.rules.specs.Rows.{own}
 use Rattle.rules.specs.Tables.{keep}
 use Rattle.rules.proofs.Tables.{map_entered}
 use Rattle.modules.specs.Rows.{row_names, row_order}
-use Rattle.modules.specs.declared.rows.Row.{Row}
 use Rattle.modules.proofs.Kept.{same_exclusions}
 use Rattle.modules.proofs.Lifted.{admitted_named}
 use Rattle.modules.proofs.exclusions.Exclusions.add.Goals as goal

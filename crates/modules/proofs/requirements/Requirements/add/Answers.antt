@@ -1,4 +1,4 @@
-use Rattle.std.proofs.Common.{◌≡◌, true, ltb, map, length, is_ok, sym, refl, ap, ◌∙◌, subst}
+use Rattle.std.proofs.Common.{ltb, map, length, is_ok, sym, refl, ap, ◌∙◌}
 use Rattle.names.specs.Paths.{plain_path_bytes, plain_path_order}
 use Rattle.ordered.specs.Held.{held}
 use Rattle.rules.specs.Paths.{path_order}

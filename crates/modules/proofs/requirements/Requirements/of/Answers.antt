@@ -3,7 +3,6 @@ use Rattle.std.proofs.Common.{◌≡◌, ℕ, ◌<◌, ◌≤◌, List, map, len
 use lib.ListN.{length-map, get_or-map}
 use Rattle.std.proofs.lemmas.List.{take_all, length-take-le}
 use Rattle.ordered.proofs.Joining.{fits}
-use Rattle.rules.specs.Names.{ModuleVersion}
 use Rattle.rules.specs.Rows.{table}
 use Rattle.modules.specs.Raised.{raise_told}
 use Rattle.modules.specs.Rows.{row_names}

@@ -1,5 +1,5 @@
 -- The row is that high already, is set at its place, or is added. Assumes nothing.
-use Rattle.std.proofs.Common.{◌≡◌, ℕ, ◌<◌, Bool, true, false, List, map, length, get_or, Ok, Err, sym, refl, ap, ◌∙◌, subst, arith}
+use Rattle.std.proofs.Common.{◌≡◌, ℕ, ◌<◌, Bool, true, false, List, map, length, get_or, Ok, Err, refl, ap, ◌∙◌, subst}
 use Rattle.std.specs.Ordering.{is_le}
 use Rattle.names.specs.Paths.{plain_path_order}
 use Rattle.ordered.specs.Held.{held}

@@ -1,10 +1,10 @@
-use Rattle.std.proofs.Common.{◌≡◌, ℕ, ◌+◌, ◌<◌, ◌≤◌, Bool, true, false, not, ◌&&◌, leb, List, [], length, get_or, drop, sym, refl, ap, ◌∙◌, ap₂, arith}
+use Rattle.std.proofs.Common.{◌≡◌, ℕ, ◌+◌, ◌<◌, ◌≤◌, Bool, true, false, not, ◌&&◌, [], length, get_or, drop, sym, ap, ◌∙◌, arith}
 use Rattle.std.proofs.lemmas.List.{at_drop_more, drop_all}
-use Rattle.std.proofs.lemmas.Bool.{le-leb, lt-leb}
+use Rattle.std.proofs.lemmas.Bool.{le-leb}
 use Rattle.rules.specs.Orders.{Bytes}
 use Rattle.rules.specs.Texts.{slash, every, pieces}
 use Rattle.rules.specs.Paths.{is_element, is_path}
-use Rattle.names.specs.Scans.{at_edge, follows, scan}
+use Rattle.names.specs.Scans.{follows, scan}
 use Rattle.names.proofs.Scanned.{scanned}
 use Rattle.names.proofs.path.checks.is_path_text.Goals as goal
 
