@@ -2,6 +2,7 @@
 use crate::compare::no_version;
 use crate::piles::{Task, with_pile};
 use crate::print::{Done, print_list, print_refusal, text_of};
+use anyhow::anyhow;
 use commands::answers::refusal_of;
 use modules::rows::{ModuleVersion, Row};
 use names::path::Path;
@@ -14,7 +15,7 @@ pub fn path_of(rt: &HostRuntime, word: &str) -> anyhow::Result<Path> {
         Some(path) => Ok(path),
         None => {
             let message = format!(in rt.alloc(); "no path: {word}")?;
-            Err(message.into())
+            Err(anyhow!(message))
         }
     }
 }

@@ -3,6 +3,7 @@ ghost use Rattle.std.specs.Prelude.{◌≡◌};
 ghost use Rattle.resolve.specs.Signs.{sign as signed};
 
 use crate::print::Done;
+use anyhow::anyhow;
 use ordered::order::Ordered;
 use std::cmp::Ordering;
 use versions::version::Version;
@@ -32,5 +33,5 @@ pub fn compare(rt: &HostRuntime, a: &str, b: &str) -> anyhow::Result<Done> {
 
 pub fn no_version(rt: &HostRuntime, text: &str) -> anyhow::Result<anyhow::Error> {
     let message = format!(in rt.alloc(); "no version: {text}")?;
-    Ok(message.into())
+    Ok(anyhow!(message))
 }

@@ -79,6 +79,6 @@ pub fn manifests_below(rt: &HostRuntime, dir: &str) -> anyhow::Result<Vec<String
         mut manifests,
     } = found;
     drop(folders);
-    manifests.sort();
+    manifests.sort()?;
     Ok(manifests)
 }

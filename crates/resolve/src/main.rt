@@ -14,8 +14,8 @@ mod show;
 mod sources;
 
 use crate::print::Done;
-use anyhow::anyhow;
 use std::env;
+use std::process::ExitCode;
 
 const USAGE: &str = "usage: resolve
        resolve tour
@@ -29,6 +29,12 @@ const USAGE: &str = "usage: resolve
        resolve versions PATH SOURCE..
        resolve pack DIR FILE
 A SOURCE is tree:FILE, shelf:FILE or dir:DIR.";
+
+// On standard error, as whatever else goes wrong.
+fn print_usage(rt: &HostRuntime) -> anyhow::Result<Done> {
+    eprintln!(rt; "resolve: {USAGE}")?;
+    Ok(Done::Refused)
+}
 
 fn run(rt: &HostRuntime) -> anyhow::Result<Done> {
     let words: Vec<String> = env::args(rt)?.skip(1).collect(rt.alloc())?;
@@ -54,17 +60,18 @@ fn run(rt: &HostRuntime) -> anyhow::Result<Done> {
             ask::versions(rt, path.as_str(), sources)
         }
         [verb, dir, file] if verb.as_str() == "pack" => pack::pack(rt, dir.as_str(), file.as_str()),
-        _ => Err(USAGE.into()),
+        _ => print_usage(rt),
     }
 }
 
-fn main(rt: HostRuntime) -> anyhow::Result<()> {
+// What went wrong is told before main ends, so that its status says no more.
+fn main(rt: HostRuntime) -> ExitCode {
     match run(&rt) {
-        Ok(Done::Well) => Ok(()),
-        Ok(Done::Refused) => Err(anyhow!("refused")),
+        Ok(Done::Well) => ExitCode::SUCCESS,
+        Ok(Done::Refused) => ExitCode::FAILURE,
         Err(e) => {
-            eprintln!(rt; "resolve: {e}")?;
-            Err(e)
+            let _ = eprintln!(rt; "resolve: {e}");
+            ExitCode::FAILURE
         }
     }
 }

@@ -3,6 +3,7 @@
 use crate::check::file_bytes;
 use crate::folder::{below, manifests_below};
 use crate::print::{Done, about};
+use anyhow::anyhow;
 use commands::packing::{NotPacked, push_file};
 use std::fs;
 
@@ -13,7 +14,7 @@ fn not_packed(rt: &HostRuntime, file: &str, why: NotPacked) -> anyhow::Result<an
         NotPacked::NoMemory => "no memory for",
     };
     let message = format!(in rt.alloc(); "{words}: {file}")?;
-    Ok(message.into())
+    Ok(anyhow!(message))
 }
 
 // The tree of a folder.

@@ -2,6 +2,7 @@
 // of a and of a fallback of b and c. One buffer alone has nothing above it, so that depths are those of the sources themselves.
 use crate::print::{Done, print_refusal};
 use crate::sources::{Loaded, load};
+use anyhow::anyhow;
 use buffers::buffer::Buffer;
 use causes::refusal::Refusal;
 use layers::fallback::Fallback;
@@ -61,7 +62,7 @@ fn with_loaded<T: Task>(rt: &HostRuntime, loaded: &[Loaded], task: &mut T) -> an
             rt,
             &mut Fallback::new(a, Fallback::new(b, Fallback::new(c, d))),
         ),
-        _ => Err(FEW.into()),
+        _ => Err(anyhow!(FEW)),
     }
 }
 
@@ -72,7 +73,7 @@ pub fn with_pile<T: Task>(
     task: &mut T,
 ) -> anyhow::Result<Done> {
     if words.len() > MOST {
-        return Err(FEW.into());
+        return Err(anyhow!(FEW));
     }
     let mut loaded = Vec::new(rt.alloc());
     for word in words {

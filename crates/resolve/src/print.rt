@@ -1,4 +1,5 @@
 // How the program says things: rows as PATH VERSION, and a refusal as one line of four numbers and the cause in words.
+use anyhow::anyhow;
 use causes::refusal::Refusal;
 use modules::rows::Row;
 use std::io;
@@ -23,7 +24,7 @@ pub fn text_of(rt: &HostRuntime, bytes: &[u8]) -> anyhow::Result<String> {
 // What went wrong with a file.
 pub fn about(rt: &HostRuntime, file: &str, e: io::Error) -> anyhow::Result<anyhow::Error> {
     let message = format!(in rt.alloc(); "{file}: {e}")?;
-    Ok(message.into())
+    Ok(anyhow!(message))
 }
 
 // A row behind a word.

@@ -1,6 +1,7 @@
 // The sources that a command line names, read into memory; a folder is packed as a tree.
 use crate::check::file_bytes;
 use crate::pack::tree_of;
+use anyhow::anyhow;
 use buffers::buffer::Kind;
 use commands::arguments::{Form, argument_of};
 
@@ -17,7 +18,7 @@ pub fn load(rt: &HostRuntime, word: &str) -> anyhow::Result<Loaded> {
         let message = format!(in rt.alloc();
             "no source (tree:FILE, shelf:FILE or dir:DIR): {word}"
         )?;
-        return Err(message.into());
+        return Err(anyhow!(message));
     };
     let (kind, bytes) = match argument.form {
         Form::Tree => (Kind::Tree, file_bytes(rt, argument.place)?),

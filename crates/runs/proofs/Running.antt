@@ -1,5 +1,5 @@
 -- One call after another: what a turn of a run adds. Assumes nothing.
-use Rattle.std.proofs.Common.{◌≡◌, ℕ, suc, ◌+◌, ◌<◌, ◌≤◌, min, List, [], ◌∷◌, ◌++◌, map, length, get_or, take, drop, set, Some, Option, sym, refl, ap, ◌∙◌, subst, ap₂, arith, length-append, length-set}
+use Rattle.std.proofs.Common.{◌≡◌, ℕ, zero, suc, ◌+◌, ◌<◌, ◌≤◌, min, List, [], ◌∷◌, ◌++◌, map, length, get_or, take, drop, set, Some, Option, sym, refl, ap, ◌∙◌, subst, ap₂, arith, length-append, length-set}
 use mathlib.Core.List as L
 use lib.ListN.{length-map}
 use lib.Seq.{take-set-le}
@@ -118,7 +118,7 @@ all_listing_in_bounds texts n [] = tt
 all_listing_in_bounds texts n (c ∷ cs) = (listing_in_bounds texts n c, all_listing_in_bounds texts n cs)
 
 all_first : (i : ℕ) (cs : L.List R.Call) → All InBounds cs → All InBounds (take i cs)
-all_first 0 cs b = tt
+all_first zero cs b = tt
 all_first (suc i) [] b = tt
 all_first (suc i) (c ∷ cs) (b, bs) = (b, all_first i cs bs)
 

@@ -41,7 +41,7 @@ checked-of-requires g c =
     let fits : n ≤ length ps = omega arith in
     let w = seen_by (path_bytes c.args.main.now) (g.S.Source.meaning c.args.source.now) in
     subst (λ (x : ModuleVersion). is_module_version x ≡ true) (sym (row_at ps n i c.index-sheet-at.result lt fits))
-    (c.requires.1 i (get_or (map place_of (take n ps)) i blank_place) one (reads (lower_ask w (map row_names c.args.ceilings.now)) i (map place_of (take n ps)) (in_front ps n i lt fits)))
+    (c.requires.formed i (get_or (map place_of (take n ps)) i blank_place) one (reads (lower_ask w (map row_names c.args.ceilings.now)) i (map place_of (take n ps)) (in_front ps n i lt fits)))
 
 pub slice_bounds-write_edges-end : goal.slice_bounds-write_edges-end
 slice_bounds-write_edges-end g c =
@@ -58,7 +58,7 @@ write_edges-requires g c =
     let long : 256 ≤ length c.args.sheet.now = omega arith in
     let short : length rows ≤ 64 = omega (arith, c.requirements.auto.rows, length-replicate 64 c.blank-rows.result) in
     let room : length (edges_in c.args.learned.now) + length (take (c.in-Ok.found.count - 0) rows) ≤ 16384 =
-    omega (arith, c.requires.3.few, short, length-take (c.in-Ok.found.count - 0) rows) in
+    omega (arith, c.requires.knows.few, short, length-take (c.in-Ok.found.count - 0) rows) in
     (few, long, room)
 
 pub returns-in-Ok : goal.returns-in-Ok
@@ -76,7 +76,7 @@ returns-in-Ok g c =
     let inside_sheet = in_front ps n i lt fits in
     let x = names_of c.checked-of.result in
     let e = c.checked-of.ensures.value ∙ row_at ps n i c.index-sheet-at.result lt fits in
-    let under = c.requires.2 x (row_here w cs i s inside_sheet x e) in
+    let under = c.requires.under x (row_here w cs i s inside_sheet x e) in
     let all : 64 ≤ length (replicate 64 c.blank-rows.result) = omega (arith, length-replicate 64 c.blank-rows.result) in
     let k = c.in-Ok.found.count in
     let k0 : k ≡ k - 0 = omega arith in
@@ -91,7 +91,7 @@ returns-in-Ok g c =
       same = c.in-Ok.ensures.same;
       inside = c.in-Ok.ensures.inside;
       value = tells_by _ _ c.write_edges.result c.write_edges.new.sheet (here_found w cs i s inside_sheet x e under ys a) c.write_edges.ensures.value;
-      learned = learned_list w cs i s inside_sheet x e under c.args.learned.now c.write_edges.new.learned c.requires.3 in_rows ys a few c.write_edges.ensures.marks
+      learned = learned_list w cs i s inside_sheet x e under c.args.learned.now c.write_edges.new.learned c.requires.knows in_rows ys a few c.write_edges.ensures.marks
           c.write_edges.result c.write_edges.new.sheet c.write_edges.ensures.value c.write_edges.ensures.edges;
     }
 
@@ -111,7 +111,7 @@ returns-then-is_missing g c =
     let x = names_of c.checked-of.result in
     let e = c.checked-of.ensures.value ∙ row_at ps n i c.index-sheet-at.result lt fits in
     let there = row_here w cs i s inside_sheet x e in
-    let under = c.requires.2 x there in
+    let under = c.requires.under x there in
     let all : 64 ≤ length (replicate 64 c.blank-rows.result) = omega (arith, length-replicate 64 c.blank-rows.result) in
     let f = fault_of c.in-Err.fault in
     let a = fault_told row_names blank (length (replicate 64 c.blank-rows.result)) f (m.requirements x) c.requirements.new.rows all (c.in-Err.ensures.value, c.in-Err.ensures.items) in
@@ -121,7 +121,7 @@ returns-then-is_missing g c =
       same = c.in-Err.ensures.same;
       inside = c.in-Err.ensures.inside;
       value = tells_by _ (ended done s) (Ok n) ps (here_missing w cs i s inside_sheet x e under short f a t) (tells_done s ps n short fits refl);
-      learned = knows_bad w cs s c.args.learned.now c.mark.new.self i x c.requires.3 there (bad_missing w cs x f a t) wide c.mark.ensures.marks c.mark.ensures.edges;
+      learned = knows_bad w cs s c.args.learned.now c.mark.new.self i x c.requires.knows there (bad_missing w cs x f a t) wide c.mark.ensures.marks c.mark.ensures.edges;
     }
 
 pub returns-else-is_missing : goal.returns-else-is_missing
@@ -139,7 +139,7 @@ returns-else-is_missing g c =
     let inside_sheet = in_front ps n i lt fits in
     let x = names_of c.checked-of.result in
     let e = c.checked-of.ensures.value ∙ row_at ps n i c.index-sheet-at.result lt fits in
-    let under = c.requires.2 x (row_here w cs i s inside_sheet x e) in
+    let under = c.requires.under x (row_here w cs i s inside_sheet x e) in
     let all : 64 ≤ length (replicate 64 c.blank-rows.result) = omega (arith, length-replicate 64 c.blank-rows.result) in
     let f = fault_of c.in-Err.fault in
     let a = fault_told row_names blank (length (replicate 64 c.blank-rows.result)) f (m.requirements x) c.requirements.new.rows all (c.in-Err.ensures.value, c.in-Err.ensures.items) in

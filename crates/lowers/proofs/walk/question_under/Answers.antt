@@ -42,7 +42,7 @@ returns-then-is_above g c =
       same = refl;
       inside = refl;
       value = tells_by _ (ended done s) (Ok n) ps (here_above w cs i s inside_sheet x e short t) (tells_done s ps n short fits refl);
-      learned = knows_bad w cs s c.args.learned.now c.mark.new.self i x c.requires.2 (row_here w cs i s inside_sheet x e) (bad_above w cs x t) wide c.mark.ensures.marks c.mark.ensures.edges;
+      learned = knows_bad w cs s c.args.learned.now c.mark.new.self i x c.requires.knows (row_here w cs i s inside_sheet x e) (bad_above w cs x t) wide c.mark.ensures.marks c.mark.ensures.edges;
     }
 
 pub ask_place-requires : goal.ask_place-requires
@@ -57,4 +57,4 @@ ask_place-requires g c =
     let fits : n ≤ length ps = omega arith in
     let x = row_names (get_or ps i c.index-sheet-at.result).row in
     let there = row_here w cs i s (in_front ps n i lt fits) x (row_at ps n i c.index-sheet-at.result lt fits) in
-    (c.requires.0, c.requires.1, (λ y h. let same : x ≡ y = cc in subst (λ (z : ModuleVersion). is_above cs z ≡ false) same (sym c.if-is_above.ensures.value)), c.requires.2)
+    record { count_bound = c.requires.count_bound; formed = c.requires.formed; under = λ y h. let same : x ≡ y = cc in subst (λ (z : ModuleVersion). is_above cs z ≡ false) same (sym c.if-is_above.ensures.value); knows = c.requires.knows }
