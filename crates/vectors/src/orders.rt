@@ -106,11 +106,11 @@ fn no_versions(rt: HostRuntime) {
 
 #[test]
 fn the_newer(rt: HostRuntime) {
-    assert!(rt; newer(b"v1.9.0", b"v1.10.0") == b"v1.10.0");
-    assert!(rt; newer(b"v1.10.0", b"v1.9.0") == b"v1.10.0");
-    assert!(rt; newer(b"none", b"v0.0.0-0") == b"v0.0.0-0");
+    assert!(rt; newer(b"v1.9.0", b"v1.10.0") == b"v1.10.0".as_slice());
+    assert!(rt; newer(b"v1.10.0", b"v1.9.0") == b"v1.10.0".as_slice());
+    assert!(rt; newer(b"none", b"v0.0.0-0") == b"v0.0.0-0".as_slice());
     assert!(rt;
-        newer(b"none", b"other") == b"none",
+        newer(b"none", b"other") == b"none".as_slice(),
         "the first, if neither is newer"
     );
 }

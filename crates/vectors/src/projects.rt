@@ -269,15 +269,14 @@ fn places_of_a_sheet(rt: HostRuntime) -> Result<(), Fail> {
     let heap = rt.alloc();
     let refused = Err(Refusal::at(Cause::TooManyModuleVersions, 0));
     let mut shelf = wide_shelf(heap)?;
-    check_wide(&rt, heap, shelf.as_slice(), 255, given(256, 256)).note("256 are reached")?;
-    check_wide(&rt, heap, shelf.as_slice(), 256, refused).note(
-        "257, all required by the main module",
-    )?;
+    // 256 are reached
+    check_wide(&rt, heap, shelf.as_slice(), 255, given(256, 256))?;
+    // 257, all required by the main module
+    check_wide(&rt, heap, shelf.as_slice(), 256, refused)?;
     push_field(&mut shelf, b'R', b"q")?;
     push_field(&mut shelf, b'W', b"v1.0.0")?;
-    check_wide(&rt, heap, shelf.as_slice(), 255, refused).note(
-        "257, the last required by the last place",
-    )
+    // 257, the last required by the last place
+    check_wide(&rt, heap, shelf.as_slice(), 255, refused)
 }
 
 // A list in slices of so many places is refused, and both are blank then.

@@ -77,7 +77,7 @@ fn without_listings(rt: HostRuntime) -> Result<(), Fail> {
         assert_eq!(rt; *reply, *other);
     }
     let rows = list_text(heap, list.as_slice(), 3)?;
-    assert!(rt; rows.as_slice() == b"upper v0.0.0\noutfall v1.3.0\ntrunk v1.0.0\n");
+    assert!(rt; rows.as_slice() == b"upper v0.0.0\noutfall v1.3.0\ntrunk v1.0.0\n".as_slice());
     assert!(rt;
         project.requirements().len() == 2,
         "there was no place for a ninth reply"
