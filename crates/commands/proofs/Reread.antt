@@ -1,5 +1,5 @@
 -- What is packed is read again. Assumes nothing.
-use Rattle.std.proofs.Common.{◌≡◌, ℕ, ◌+◌, ◌*◌, ◌/◌, ◌%◌, ◌≤◌, true, cond, leb, List, [], ◌∷◌, ◌++◌, map, length, take, drop, is_ok, Some, None, Ok, sym, refl, ap, ◌∙◌, arith}
+use Rattle.std.proofs.Common.{◌≡◌, ℕ, ◌+◌, ◌*◌, ◌/◌, ◌%◌, ◌≤◌, leb, List, [], ◌∷◌, ◌++◌, map, length, take, drop, is_ok, Some, None, Ok, sym, ap, ◌∙◌, arith}
 use Rattle.std.proofs.lemmas.List.{append_assoc, append-nil, length-append, take_at, drop_at}
 use Rattle.std.proofs.lemmas.Bool.{cond-true, le-leb}
 use Rattle.rules.specs.Orders.{Bytes}
@@ -8,7 +8,7 @@ use Rattle.fields.specs.Pairs.{pairs, pairs_in}
 use Rattle.fields.specs.Openings.{opened, opened_from}
 use Rattle.fields.specs.Samples.{field}
 use Rattle.fields.proofs.Pieces.{pieces_whole, pieces_none}
-use Rattle.tree.specs.Grammar.{tag_N, tag_B, follow, may_end, opening, is_tree}
+use Rattle.tree.specs.Grammar.{tag_N, tag_B, follow, may_end, opening}
 use Rattle.tree.specs.declared.order.Expected.TheVariants.{Name}
 use Rattle.commands.specs.Packing.{file, packed, held_file, PackingRight}
 

@@ -1,5 +1,5 @@
 -- What a table answers to a row that is raised or excluded, told as an outcome of the rules. Assumes nothing.
-use Rattle.std.proofs.Common.{◌≡◌, ℕ, Bool, true, false, cond, leb, List, length, is_ok, Some, None, Ok, Err, Option, Result, sym, refl, ap, ◌∙◌, ap₂, arith}
+use Rattle.std.proofs.Common.{◌≡◌, ℕ, Bool, true, false, cond, leb, List, length, is_ok, Some, None, Ok, Err, Option, Result, refl, ap, ap₂, arith}
 use Rattle.std.specs.Ordering.{is_le}
 use Rattle.rules.specs.Names.{ModuleVersion, has}
 use Rattle.rules.specs.Versions.{version_order}

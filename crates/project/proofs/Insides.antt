@@ -1,7 +1,5 @@
 -- What an exclude layer has inside: its table and what is below it means. Assumes nothing.
 use Rattle.std.proofs.Common.{◌≡◌, List, [], ◌∷◌, ap}
-use Rattle.rules.specs.Names.{ModuleVersion}
-use Rattle.rules.specs.Sources.{Meaning}
 use Rattle.source.specs.Insides.{Inside}
 
 first : Inside → List Inside → Inside

@@ -3,7 +3,7 @@ use Rattle.std.proofs.Common.{◌≡◌, Bool, true, false, cond, List, [], sym,
 use Rattle.rules.specs.Names.{ModuleVersion}
 use Rattle.rules.specs.Causes.{slice_too_short}
 use Rattle.rules.specs.Sources.{Meaning, included}
-use Rattle.rules.specs.Projects.{State, View, view}
+use Rattle.rules.specs.Projects.{State, view}
 use Rattle.rules.specs.Slices.{Lent, long_enough, Slices, holding}
 use Rattle.rules.specs.Calls.{list, Reply, refused, Outcome, refusal_for, if_long_enough, lists, does}
 use Rattle.walks.specs.Listed.{Listed, lists_from}

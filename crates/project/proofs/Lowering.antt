@@ -1,12 +1,12 @@
 -- A lower over the exclude layer of a project, from its rows but the exclusions, is the lower of the rules. Assumes nothing.
-use Rattle.std.proofs.Common.{◌≡◌, List, Option, sym, refl, ap, ◌∙◌}
+use Rattle.std.proofs.Common.{◌≡◌, List, Option, sym, ap, ◌∙◌}
 use Rattle.rules.specs.Orders.{Bytes}
 use Rattle.rules.specs.Names.{ModuleVersion}
 use Rattle.rules.specs.Sources.{Meaning, included}
 use Rattle.rules.specs.Projects.{State, view}
 use Rattle.rules.specs.Slices.{Lent, Slices}
 use Rattle.rules.specs.Calls.{lower, Reply, Outcome, does}
-use Rattle.lowers.specs.Lowered.{Lowering, lowers_from, state_after, outcome_of}
+use Rattle.lowers.specs.Lowered.{lowers_from, state_after}
 use Rattle.lowers.proofs.Ending.{lower_stands}
 
 pub lower_is : (m : Meaning) (s t : State) (p v : Bytes) (n : Lent) (start : List ModuleVersion) (reply : Reply) (kept : Option (List ModuleVersion)) (slices : Slices)

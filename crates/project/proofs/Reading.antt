@@ -1,24 +1,21 @@
 -- What was read into two slices, as the tables that are made of it. Assumes nothing.
-use Rattle.std.proofs.Common.{◌≡◌, ℕ, zero, suc, ◌-◌, ◌≤◌, Bool, true, cond, ◌&&◌, leb, ◌⊎◌, List, [], ◌∷◌, ◌++◌, map, length, take, replicate, Ok, Err, Result, sym, refl, ap, ◌∙◌, subst, ap₂, inl, inr, arith}
-use lib.ListN.{length-replicate, length-map}
+use Rattle.std.proofs.Common.{◌≡◌, ℕ, zero, suc, ◌-◌, Bool, true, cond, ◌&&◌, leb, List, [], ◌∷◌, map, length, take, replicate, Ok, refl, ap, ◌∙◌, ap₂, inl, inr, arith}
+use lib.ListN.{length-replicate}
 use Rattle.std.proofs.lemmas.Bool.{and_from}
 use Rattle.std.proofs.lemmas.List.{take-append-le, take_all}
 use Rattle.rules.specs.Orders.{Bytes}
 use Rattle.rules.specs.Causes as R
-use Rattle.rules.specs.Names.{ModuleVersion, is_module_version, ◌∈◌}
+use Rattle.rules.specs.Names.{ModuleVersion, ◌∈◌}
 use Rattle.rules.specs.Texts.{every}
 use Rattle.rules.specs.Manifests as M
 use Rattle.rules.specs.Projects.{State}
 use Rattle.rules.specs.Rows.{table, exclusion_table}
-use Rattle.rules.specs.Slices.{blank, filled}
-use Rattle.rules.specs.Calls.{Outcome, accepts, loaded}
-use Rattle.names.specs.Paths.{path_bytes}
+use Rattle.rules.specs.Slices.{blank}
+use Rattle.rules.specs.Calls.{accepts, loaded}
 use Rattle.modules.specs.Rows.{row_names}
 use Rattle.modules.specs.declared.rows.Row.{Row}
-use Rattle.causes.specs.Told.{of_place}
-use Rattle.manifest.specs.Holds.{names_in, names_read, Left}
+use Rattle.manifest.specs.Holds.{names_read, Left}
 use Rattle.manifest.specs.Outcomes.{Counts, counted, require_rows, exclude_rows, asked}
-use Rattle.manifest.specs.declared.kinds.Owner.{Owner}
 use Rattle.manifest.specs.declared.kinds.Owner.TheVariants.{Project}
 
 pub every_member : (test : ModuleVersion → Bool) (xs : List ModuleVersion) → ((x : ModuleVersion) → x ∈ xs → test x ≡ true) → every test xs ≡ true

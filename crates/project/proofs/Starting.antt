@@ -1,5 +1,5 @@
 -- The rows that are not excluded, gone through one after another. Assumes nothing.
-use Rattle.std.proofs.Common.{◌≡◌, ℕ, suc, ◌+◌, ◌<◌, ◌≤◌, Bool, true, false, cond, not, List, [], ◌∷◌, ◌++◌, map, length, get_or, take, set, filter, sym, refl, ap, ◌∙◌, subst, ap₂, append-nil, arith, length-set}
+use Rattle.std.proofs.Common.{◌≡◌, ℕ, ◌+◌, ◌<◌, ◌≤◌, true, false, cond, not, List, [], ◌∷◌, ◌++◌, map, length, get_or, take, set, sym, ap, ◌∙◌, ap₂, append-nil, arith, length-set}
 use lib.ListN.{length-map}
 use lib.Seq.{take-set-le}
 use Rattle.std.proofs.lemmas.List.Elements.{filter_more}

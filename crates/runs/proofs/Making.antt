@@ -1,10 +1,9 @@
 -- One call: from what its method ensures, what the door does. Assumes nothing.
-use Rattle.std.proofs.Common.{◌≡◌, List, [], ◌∷◌, ◌++◌, Ok, Err, Result, sym, refl, ap, ◌∙◌, subst}
+use Rattle.std.proofs.Common.{◌≡◌, List, [], ◌∷◌, ◌++◌, Ok, Err, Result, sym, refl, ap, ◌∙◌}
 use Rattle.std.specs.List.{AllByRecursion as All}
-use Rattle.rules.specs.Orders.{Bytes}
 use Rattle.rules.specs.Sources.{Meaning, Lawful}
 use Rattle.rules.specs.Projects.{State}
-use Rattle.rules.specs.Slices.{Lent, Slices}
+use Rattle.rules.specs.Slices.{Slices}
 use Rattle.rules.specs.Calls.{Call, Reply, Outcome, does}
 use Rattle.rules.specs.Runs.{after, fresh, InBounds}
 use Rattle.rules.proofs.Runs.{runs_right}

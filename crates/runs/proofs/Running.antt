@@ -14,7 +14,7 @@ use Rattle.rules.specs.Orders.{Bytes}
 use Rattle.rules.specs.Manifests as M
 use Rattle.rules.proofs.Readings.{well_formed}
 use Rattle.rules.specs.Runs.{after, fresh, InBounds}
-use Rattle.runs.specs.Law.{leaves, replies, slices_after, LawAt, RunsBy}
+use Rattle.runs.specs.Law.{leaves, replies, slices_after, RunsBy}
 use Rattle.runs.specs.Parts.{part_of}
 use Rattle.runs.specs.Told.{call_of, listing_call_of, calls_of, listing_calls_of, reply_told, ToldIn}
 use Rattle.runs.specs.declared.calls.Call.{Call}

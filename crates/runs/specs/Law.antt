@@ -2,7 +2,7 @@
 use Rattle.std.specs.Prelude.{◌≡◌, ℕ, ◌≤◌, List, [], ◌∷◌, ◌++◌, length, take}
 use Rattle.rules.specs.Sources.{Meaning}
 use Rattle.rules.specs.Projects.{State}
-use Rattle.rules.specs.Slices.{Lent, Slices}
+use Rattle.rules.specs.Slices.{Slices}
 use Rattle.rules.specs.Calls.{Call, load, raise, drop, exclude, lower, list, Reply, does}
 use Rattle.rules.specs.Runs.{after, fresh, outcome, Right, Tidy}
 use Rattle.rules.specs.Changes.{Changes}

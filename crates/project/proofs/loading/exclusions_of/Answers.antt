@@ -9,7 +9,6 @@ use Rattle.rules.specs.Rows.{own, exclusion_table}
 use Rattle.rules.proofs.Tables.{entered_all_most}
 use Rattle.ordered.specs.Held.{fitting}
 use Rattle.modules.specs.Rows.{row_names}
-use Rattle.modules.specs.Tables.{exclusion_names}
 use Rattle.project.proofs.loading.exclusions_of.Goals as goal
 
 room : (xs : List ModuleVersion) → length xs ≤ 32 → fitting 32 (exclusion_table xs) ≡ Some (exclusion_table xs)

@@ -1,16 +1,12 @@
 -- What is read is well formed and in bounds, and is taken over. Assumes nothing.
-use Rattle.std.proofs.Common.{◌≡◌, ℕ, ◌-◌, ◌≤◌, true, List, map, length, take, replicate, sym, refl, ap, ◌∙◌, subst, ap₂, arith}
+use Rattle.std.proofs.Common.{◌≡◌, ℕ, ◌-◌, map, length, take, replicate, ap, ◌∙◌, subst, arith}
 use lib.ListN.{length-map}
-use Rattle.rules.specs.Names.{ModuleVersion, is_module_version}
+use Rattle.rules.specs.Names.{is_module_version}
 use Rattle.rules.specs.Texts.{every}
 use Rattle.rules.specs.Manifests.{Reading, reading}
-use Rattle.rules.specs.Rows.{table, exclusion_table}
-use Rattle.rules.specs.Calls.{accepts, loaded}
+use Rattle.rules.specs.Calls.{accepts}
 use Rattle.names.specs.Paths.{path_bytes}
-use Rattle.names.specs.declared.path.Path.{Path}
 use Rattle.modules.specs.Rows.{row_names}
-use Rattle.modules.specs.Tables.{requirement_names, exclusion_names}
-use Rattle.modules.specs.declared.rows.Row.{Row}
 use Rattle.manifest.specs.Holds.{names_read, Left}
 use Rattle.manifest.specs.Outcomes.{counted, require_rows, exclude_rows}
 use Rattle.project.proofs.Reading.{every_member, map_take, asked_is, taken_over}

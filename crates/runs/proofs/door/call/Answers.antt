@@ -1,12 +1,11 @@
 -- Each call by its method. Assumes nothing.
-use Rattle.std.proofs.Common.{◌≡◌, sym, refl, ap, ◌∙◌}
+use Rattle.std.proofs.Common.{sym, refl, ap, ◌∙◌}
 use Rattle.rules.specs.Calls as R
 use Rattle.rules.specs.Manifests.{reading}
 use Rattle.names.specs.Paths.{path_bytes}
 use Rattle.modules.specs.Rows.{names_of}
 use Rattle.walks.specs.Listed.{lent, slices_of}
 use Rattle.project.specs.Projects.{state_of, counted_as}
-use Rattle.runs.specs.declared.calls.Call.{Call}
 use Rattle.runs.specs.Told.{call_of, reply_told}
 use Rattle.runs.proofs.Making.{goes_on, change_made, written_made}
 use Rattle.runs.proofs.door.call.Goals as goal

@@ -1,11 +1,10 @@
 -- Lower by its method, and every other call by the door for any source. Assumes nothing.
-use Rattle.std.proofs.Common.{◌≡◌, sym, refl, ap, ◌∙◌}
+use Rattle.std.proofs.Common.{refl, ap}
 use Rattle.rules.specs.Calls as R
 use Rattle.names.specs.Paths.{path_bytes}
 use Rattle.versions.specs.Values.{version_bytes}
 use Rattle.walks.specs.Listed.{lent, slices_of}
 use Rattle.project.specs.Projects.{state_of, counted_as}
-use Rattle.runs.specs.Law.{leaves}
 use Rattle.runs.specs.Told.{call_of, listing_call_of, reply_told}
 use Rattle.runs.proofs.Making.{goes_on, written_made, retold}
 use Rattle.runs.proofs.listing.call_listing.Goals as goal

@@ -1,11 +1,11 @@
 -- Each call is made in the state that the calls before it left. Assumes nothing.
-use Rattle.std.proofs.Common.{◌≡◌, ℕ, ◌<◌, min, map, length, take, ap, ◌∙◌, arith}
+use Rattle.std.proofs.Common.{◌≡◌, ℕ, ◌<◌, min, length, take, ap, ◌∙◌, arith}
 use Rattle.rules.specs.Runs.{after, fresh}
 use Rattle.project.specs.Projects.{state_of, pile_of}
 use Rattle.walks.specs.Listed.{lent, slices_of}
 use Rattle.runs.specs.Law.{replies, slices_after}
 use Rattle.runs.specs.Told.{listing_call_of, listing_calls_of, ToldIn}
-use Rattle.runs.proofs.Running.{RanTo, ran_none, ran_more, runs_by, all_listing_in_bounds, within}
+use Rattle.runs.proofs.Running.{ran_none, ran_more, runs_by, all_listing_in_bounds, within}
 use Rattle.runs.proofs.listing.run_listing.Goals as goal
 
 pub loop-i-init : goal.loop-i-init

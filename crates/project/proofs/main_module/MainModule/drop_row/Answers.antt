@@ -1,14 +1,12 @@
 -- The rows stay well formed, and the row of the path is gone, or there is none. Assumes nothing.
-use Rattle.std.proofs.Common.{◌≡◌, true, List, Some, None, Option, sym, refl, ap, ◌∙◌, ap₂}
-use Rattle.std.specs.Option.{option_map}
+use Rattle.std.proofs.Common.{◌≡◌, List, refl, ap, ◌∙◌, ap₂}
 use Rattle.rules.specs.Causes.{Refusal}
 use Rattle.rules.specs.Names.{ModuleVersion, is_module_version}
 use Rattle.rules.specs.Texts.{every}
 use Rattle.rules.specs.Rows.{row_of, without_row}
-use Rattle.rules.specs.Projects.{State, with_rows}
+use Rattle.rules.specs.Projects.{with_rows}
 use Rattle.rules.specs.Calls.{accepts, refuses, dropped}
 use Rattle.names.specs.Paths.{path_bytes, plain_path_bytes}
-use Rattle.modules.specs.Rows.{row_names}
 use Rattle.modules.specs.Tables.{requirement_names}
 use Rattle.project.specs.States.{main_state}
 use Rattle.project.proofs.Formed.{formed_without}

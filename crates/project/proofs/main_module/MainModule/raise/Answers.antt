@@ -1,18 +1,16 @@
 -- The rows stay well formed, and what the table answers is what the rules say. Assumes nothing.
-use Rattle.std.proofs.Common.{◌≡◌, ℕ, Bool, true, false, List, is_ok, Ok, Err, Result, sym, refl, ap, ◌∙◌, subst, ap₂}
+use Rattle.std.proofs.Common.{◌≡◌, Bool, true, false, is_ok, Ok, Err, refl, ap, ◌∙◌}
 use Rattle.rules.specs.Causes.{Refusal}
 use Rattle.rules.specs.Names.{ModuleVersion, is_module_version}
 use Rattle.rules.specs.Texts.{every}
 use Rattle.rules.specs.Rows.{with_row}
-use Rattle.rules.specs.Projects.{State, with_rows}
+use Rattle.rules.specs.Projects.{with_rows}
 use Rattle.rules.specs.Calls.{refuses}
 use Rattle.modules.specs.Raised.{raise_told}
 use Rattle.modules.specs.Rows.{row_names, names_of}
 use Rattle.modules.specs.Tables.{requirement_names}
 use Rattle.modules.specs.declared.requirements.Requirements.{Requirements}
-use Rattle.modules.specs.declared.requirements.raises.NotRaised.{NotRaised}
 use Rattle.modules.specs.declared.requirements.raises.NotRaised.TheVariants.{NotHigher, NoRoom}
-use Rattle.modules.specs.declared.rows.Row.{Row}
 use Rattle.project.specs.States.{main_state}
 use Rattle.project.proofs.Formed.{formed_with, formed_names}
 use Rattle.project.proofs.Changing.{raise_right}

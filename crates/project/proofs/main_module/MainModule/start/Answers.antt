@@ -1,12 +1,12 @@
 -- One row after another, left out or taken. Assumes nothing.
-use Rattle.std.proofs.Common.{◌≡◌, ℕ, ◌+◌, ◌<◌, ◌≤◌, true, not, List, map, length, get_or, take, sym, refl, ap, ◌∙◌, subst, ap₂, arith, length-set}
+use Rattle.std.proofs.Common.{◌≡◌, ℕ, ◌<◌, ◌≤◌, List, map, length, get_or, sym, refl, ap, ◌∙◌, arith}
 use lib.ListN.{length-map, get_or-map}
 use Rattle.std.proofs.lemmas.List.{take_all}
-use Rattle.rules.specs.Names.{ModuleVersion, is_module_version}
+use Rattle.rules.specs.Names.{is_module_version}
 use Rattle.rules.specs.Sources.{included}
 use Rattle.rules.specs.Texts.{every}
-use Rattle.modules.specs.Rows.{row_names, names_of}
-use Rattle.modules.specs.Tables.{requirement_names, exclusion_names}
+use Rattle.modules.specs.Rows.{row_names}
+use Rattle.modules.specs.Tables.{exclusion_names}
 use Rattle.modules.specs.declared.rows.Row.{Row}
 use Rattle.project.proofs.Formed.{every_at}
 use Rattle.project.proofs.Starting.{few_items, turn_taken, turn_left}

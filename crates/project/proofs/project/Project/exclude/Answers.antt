@@ -1,8 +1,7 @@
 -- What the layer answers is what the rules say, and the main module stays. Assumes nothing.
-use Rattle.std.proofs.Common.{◌≡◌, List, Ok, Err, refl, ap, ◌∙◌}
+use Rattle.std.proofs.Common.{◌≡◌, Ok, Err, ap, ◌∙◌}
 use Rattle.rules.specs.Calls.{does, refuses}
 use Rattle.rules.specs.Causes.{Refusal}
-use Rattle.rules.specs.Names.{ModuleVersion}
 use Rattle.rules.specs.Projects.{with_exclusions}
 use Rattle.rules.specs.Rows.{with_exclusion}
 use Rattle.modules.specs.Rows.{row_names, names_of}

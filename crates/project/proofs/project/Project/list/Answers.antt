@@ -1,10 +1,7 @@
 -- The walk goes over the exclude layer and changes nothing inside of it; what it gives is what the rules say, and so the promises hold of it. Assumes nothing.
-use Rattle.std.proofs.Common.{◌≡◌, ℕ, ◌-◌, List, map, take, sym, refl, ap, ◌∙◌, subst, arith}
-use Rattle.rules.specs.Names.{ModuleVersion}
-use Rattle.rules.specs.Sources.{Meaning, included, excluding}
-use Rattle.rules.specs.Projects.{State}
-use Rattle.rules.specs.Slices.{Lent}
-use Rattle.rules.specs.Calls.{Outcome, does, list}
+use Rattle.std.proofs.Common.{◌≡◌, ℕ, ◌-◌, map, take, sym, ap, ◌∙◌, subst, arith}
+use Rattle.rules.specs.Sources.{included, excluding}
+use Rattle.rules.specs.Calls.{Outcome}
 use Rattle.rules.proofs.Runs.{right_at}
 use Rattle.names.specs.Paths.{path_bytes}
 use Rattle.names.specs.declared.path.Path.{Path}

@@ -1,5 +1,5 @@
 -- The manifest is taken over, or nothing is. Assumes nothing.
-use Rattle.std.proofs.Common.{◌≡◌, List, sym, refl, ap, ◌∙◌}
+use Rattle.std.proofs.Common.{refl, ap, ◌∙◌}
 use Rattle.rules.specs.Calls.{does, accepts}
 use Rattle.modules.specs.Tables.{exclusion_names}
 use Rattle.modules.specs.declared.exclusions.Exclusions.{Exclusions}

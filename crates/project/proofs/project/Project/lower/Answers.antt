@@ -1,10 +1,9 @@
 -- The walks go over the exclude layer and change nothing inside of it; the kept rows become the rows, and what is left is what the rules say, so that
 -- the promises hold of it. Assumes nothing.
-use Rattle.std.proofs.Common.{◌≡◌, ℕ, ◌-◌, List, map, take, Some, None, Ok, Err, sym, refl, ap, ◌∙◌, subst, arith}
-use Rattle.rules.specs.Names.{ModuleVersion}
+use Rattle.std.proofs.Common.{◌≡◌, ℕ, ◌-◌, map, take, Ok, Err, sym, ap, ◌∙◌, subst, arith}
 use Rattle.rules.specs.Sources.{included, excluding}
 use Rattle.rules.specs.Projects.{State}
-use Rattle.rules.specs.Calls.{Outcome, does, lower}
+use Rattle.rules.specs.Calls.{Outcome}
 use Rattle.rules.proofs.Runs.{right_at}
 use Rattle.names.specs.Paths.{path_bytes}
 use Rattle.names.specs.declared.path.Path.{Path}
