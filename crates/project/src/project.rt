@@ -4,7 +4,7 @@ use layers::exclude::Exclude;
 
 pub mod changes;
 pub mod lists;
-pub mod lowers;
+pub mod lowering;
 pub mod reads;
 
 #[derive(Drop)]

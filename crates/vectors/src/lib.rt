@@ -4,7 +4,7 @@ mod asks;
 #[cfg(test)]
 mod manifests;
 #[cfg(test)]
-mod names;
+mod named;
 #[cfg(test)]
 mod orders;
 #[cfg(test)]
@@ -12,7 +12,7 @@ mod piles;
 #[cfg(test)]
 mod projects;
 #[cfg(test)]
-mod runs;
+mod sequences;
 #[cfg(test)]
 mod shelves;
 #[cfg(test)]
