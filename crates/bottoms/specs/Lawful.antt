@@ -3,7 +3,7 @@
 use Rattle.std.specs.Prelude.{◌≡◌, ℕ, ◌≤◌, Bool, true, false, cond, ◌⊎◌, List, [], ◌∷◌, length, Some, None, Option, nat_lt, refl}
 use Rattle.std.proofs.Common.{sym, ◌∙◌, inl, inr, ⊎_elim, arith}
 use Rattle.std.proofs.Math.Path.{ap, subst}
-use Rattle.std.specs.List.{AllByRecursion as All}
+use Rattle.std.specs.List.{AllByRecursion}
 use Rattle.std.proofs.lemmas.Bool.{ltb-false}
 use Rattle.rules.specs.Orders.{Bytes}
 use Rattle.rules.specs.Versions.{is_version, version_order}
@@ -43,7 +43,7 @@ table_was vs v h = ⊎_elim (λ k. absurd k) (λ k. k) ((entered_all_told own ve
 module _ {I : Type 0} (is_of : ModuleVersion → I → Bool) (answer : I → Answer (List ModuleVersion)) (version_in : Bytes → I → Option Bytes) where
   pub record LawfulItems (items : List I) : Type 0 where
     pub few_rows : (i : I) → i ∈ items → (rs : List ModuleVersion) → answer i ≡ found rs → length rs ≤ 64
-    pub rows_formed : (i : I) → i ∈ items → (rs : List ModuleVersion) → answer i ≡ found rs → All (λ r. is_module_version r ≡ true) rs
+    pub rows_formed : (i : I) → i ∈ items → (rs : List ModuleVersion) → answer i ≡ found rs → AllByRecursion (λ r. is_module_version r ≡ true) rs
     pub depth : (i : I) → i ∈ items → (f : Fault) → answer i ≡ fault f → f.depth ≤ 255
     pub formed : (p : Bytes) (i : I) → i ∈ items → (v : Bytes) → version_in p i ≡ Some v → is_version v ≡ true
     pub holds : (p v : Bytes) (i : I) → i ∈ items → is_of (at p v) i ≡ true → version_in p i ≡ Some v

@@ -1,6 +1,6 @@
 -- What lower's walk is answered at a place, as the code asks. Assumes nothing.
 use Rattle.std.proofs.Common.{◌≡◌, ℕ, ◌+◌, ◌<◌, ◌≤◌, Bool, true, false, cond, List, [], map, length, get_or, take, IfOk, Some, Ok, Err, Result, sym, refl, ap, ◌∙◌, subst, arith}
-use Rattle.std.specs.List.{slice_get, AllByRecursion as All}
+use Rattle.std.specs.List.{slice_get, AllByRecursion}
 use Rattle.std.proofs.lemmas.Bool.{or_left, or_right}
 use Rattle.rules.specs.Names.{ModuleVersion, is_module_version}
 use Rattle.rules.specs.Causes.{Fault, is_missing}
@@ -45,18 +45,18 @@ module _ (w : View) (cs : List ModuleVersion) where
   pub asks_formed : Lawful w.layer → AsksFormed (lower_ask w cs)
   asks_formed law x ys e = by_test (is_above cs x) e
     where
-      none : found [] ≡ found ys → All (λ y. is_module_version y ≡ true) ys
-      none q = let k : [] ≡ ys = cc in subst (All (λ y. is_module_version y ≡ true)) k tt
+      none : found [] ≡ found ys → AllByRecursion (λ y. is_module_version y ≡ true) ys
+      none q = let k : [] ≡ ys = cc in subst (AllByRecursion (λ y. is_module_version y ≡ true)) k tt
 
-      excuse : (f : Fault) (b : Bool) → cond {A = Answer (List ModuleVersion)} b (found []) (fault f) ≡ found ys → All (λ y. is_module_version y ≡ true) ys
+      excuse : (f : Fault) (b : Bool) → cond {A = Answer (List ModuleVersion)} b (found []) (fault f) ≡ found ys → AllByRecursion (λ y. is_module_version y ≡ true) ys
       excuse f true q = none q
       excuse f false q = let z : ◌≡◌ {A = ℕ} 0 1 = cc in absurd (omega arith)
 
-      answer : (a : Answer (List ModuleVersion)) → remaining w x ≡ a → excused a ≡ found ys → All (λ y. is_module_version y ≡ true) ys
+      answer : (a : Answer (List ModuleVersion)) → remaining w x ≡ a → excused a ≡ found ys → AllByRecursion (λ y. is_module_version y ≡ true) ys
       answer (found zs) r q = required_formed w law x ys (r ∙ q)
       answer (fault f) r q = excuse f (is_missing f.cause) q
 
-      by_test : (b : Bool) → cond b (found []) (excused (remaining w x)) ≡ found ys → All (λ y. is_module_version y ≡ true) ys
+      by_test : (b : Bool) → cond b (found []) (excused (remaining w x)) ≡ found ys → AllByRecursion (λ y. is_module_version y ≡ true) ys
       by_test true q = none q
       by_test false q = answer (remaining w x) refl q
 

@@ -1,6 +1,6 @@
 -- What a lower replies and leaves, by how its list and its walk ended; and that it is the lower of the rules. Assumes nothing.
 use Rattle.std.proofs.Common.{◌≡◌, ℕ, suc, ◌+◌, ◌-◌, ◌≤◌, Bool, true, false, cond, not, ◌⊎◌, List, [], ◌∷◌, ◌++◌, map, length, take, drop, replicate, Some, None, Ok, Err, sym, refl, ap, ◌∙◌, subst, inl, inr, ⊎_elim, arith}
-use Rattle.std.specs.List.{AllByRecursion as All}
+use Rattle.std.specs.List.{AllByRecursion}
 use Rattle.std.proofs.lemmas.List.{take_all, length-take, take_at, take-map, length-map}
 use Rattle.std.proofs.ByRecursion.{all_kept_by}
 use Rattle.std.proofs.lemmas.Bool.{and_parts}
@@ -157,11 +157,11 @@ module _ (w : View) (cs : List ModuleVersion) (after : List Place) where
 
 -- ---- the ceilings of rows
 
-module _ (main p v : Bytes) (xs : List ModuleVersion) (formed : All (λ x. is_path x.path ≡ true) xs) (up : AscendingRows xs) (apart : All (λ x. x.path ≡ main → ⊥) xs) where
+module _ (main p v : Bytes) (xs : List ModuleVersion) (formed : AllByRecursion (λ x. is_path x.path ≡ true) xs) (up : AscendingRows xs) (apart : AllByRecursion (λ x. x.path ≡ main → ⊥) xs) where
   is_list_here : IsList (bare main) (main_row (bare main) ∷ xs)
   is_list_here = (xs, refl, up, apart)
 
-  pub ceilings_formed : All (λ c. is_path c.path ≡ true) (map (ceiling_of p v) xs)
+  pub ceilings_formed : AllByRecursion (λ c. is_path c.path ≡ true) (map (ceiling_of p v) xs)
   ceilings_formed = go xs formed
     where
       one : (x : ModuleVersion) → is_path x.path ≡ true → is_path (ceiling_of p v x).path ≡ true
@@ -171,14 +171,14 @@ module _ (main p v : Bytes) (xs : List ModuleVersion) (formed : All (λ x. is_pa
           by true = t
           by false = t
 
-      go : (ys : List ModuleVersion) → All (λ y. is_path y.path ≡ true) ys → All (λ c. is_path c.path ≡ true) (map (ceiling_of p v) ys)
+      go : (ys : List ModuleVersion) → AllByRecursion (λ y. is_path y.path ≡ true) ys → AllByRecursion (λ c. is_path c.path ≡ true) (map (ceiling_of p v) ys)
       go [] h = tt
       go (y ∷ ys) h = (one y h.0, go ys h.1)
 
   pub ceilings_up : AscendingRows (map (ceiling_of p v) xs)
   ceilings_up = ceilings_ascend (bare main) p v (main_row (bare main) ∷ xs) is_list_here
 
-  pub ceilings_off : All (λ c. c.path ≡ main → ⊥) (map (ceiling_of p v) xs)
+  pub ceilings_off : AllByRecursion (λ c. c.path ≡ main → ⊥) (map (ceiling_of p v) xs)
   ceilings_off = all_from_members (λ c. c.path ≡ main → ⊥) (map (ceiling_of p v) xs) (ceilings_apart (bare main) p v (main_row (bare main) ∷ xs) is_list_here)
 
 -- ---- the list
@@ -199,10 +199,10 @@ module _ (w : View) (start : List ModuleVersion) where
   pub behind_up : AscendingRows behind
   behind_up = table_ascending (off_main w.main (module_versions sheet))
 
-  pub behind_off : All (λ x. x.path ≡ w.main → ⊥) behind
+  pub behind_off : AllByRecursion (λ x. x.path ≡ w.main → ⊥) behind
   behind_off = all_from_members (λ x. x.path ≡ w.main → ⊥) behind (λ x h. (behind_was x h).1)
 
-  module _ (law : Lawful w.layer) (starts : All (λ x. is_module_version x ≡ true) start) where
+  module _ (law : Lawful w.layer) (starts : AllByRecursion (λ x. is_module_version x ≡ true) start) where
     abbrev Good : List R.Place → Type 0
     Good t = (x : ModuleVersion) → x ∈ module_versions t → (x ≡ main_row (bare w.main)) ⊎ (is_module_version x ≡ true)
 
@@ -220,7 +220,7 @@ module _ (w : View) (start : List ModuleVersion) where
         (begun_of (remaining w) (off_main w.main start) (first_sheet (bare w.main)))
         (λ x h. ⊎_elim (λ e. inl e) (λ z. absurd z) h)
 
-    pub behind_formed : All (λ x. is_path x.path ≡ true) behind
+    pub behind_formed : AllByRecursion (λ x. is_path x.path ≡ true) behind
     behind_formed = all_from_members (λ x. is_path x.path ≡ true) behind (λ x h.
         let (k, off) = behind_was x h in
         ⊎_elim (λ e. absurd (off (ap (λ (z : ModuleVersion). z.path) e))) (λ t. (and_parts (is_path x.path) (is_version x.version) t).0) (walk_good x k))

@@ -1,6 +1,6 @@
 -- That the rows which are kept are the kept rows of the rules. Assumes nothing.
 use Rattle.std.proofs.Common.{◌≡◌, ℕ, zero, suc, ◌+◌, ◌<◌, ◌≤◌, Bool, true, false, cond, ◌⊎◌, List, [], ◌∷◌, ◌++◌, map, length, get_or, take, drop, replicate, Some, None, Ok, Err, Ordering, Less, Equal, Greater, sym, refl, ap, ◌∙◌, subst, inl, inr, ⊎_elim, true≢false, arith}
-use Rattle.std.specs.List.{slice_get, AllByRecursion as All}
+use Rattle.std.specs.List.{slice_get, AllByRecursion}
 use Rattle.std.specs.Ordering.{is_lt, is_eq}
 use Rattle.std.proofs.lemmas.List.{append-nil, append_assoc, take_all, take-take, take-map, length-take}
 use Rattle.std.proofs.lemmas.Bool.{or_cases, cases_Bool, and_from}
@@ -229,7 +229,7 @@ module _ (ask : ModuleVersion → Answer (List ModuleVersion)) (s : List R.Place
 
 -- ---- lower under ceilings
 
-module _ (w : View) (law : Lawful w.layer) (cs : List ModuleVersion) (up : AscendingRows cs) (apart : All (λ c. c.path ≡ w.main → ⊥) cs) (formed : All (λ c. is_path c.path ≡ true) cs) where
+module _ (w : View) (law : Lawful w.layer) (cs : List ModuleVersion) (up : AscendingRows cs) (apart : AllByRecursion (λ c. c.path ≡ w.main → ⊥) cs) (formed : AllByRecursion (λ c. is_path c.path ≡ true) cs) where
   abbrev base : List R.Place
   base = first_sheet (bare w.main)
 

@@ -3,7 +3,7 @@
 // or a place brings a fault, or there is no room for one more place. The list slice holds the list that it started from. Behind what is written both
 // slices are blank.
 ghost use Rattle.std.specs.Prelude.{◌≡◌, ◌+◌, ◌≤◌, true, map, length, take, IfOk, if◌then◌else◌, Some, None, ◌≢◌};
-ghost use Rattle.std.specs.List.{AllByRecursion as All};
+ghost use Rattle.std.specs.List.{AllByRecursion};
 ghost use Rattle.rules.specs.Texts.{every};
 ghost use Rattle.rules.specs.Paths.{is_path};
 ghost use Rattle.rules.specs.Names.{is_module_version};
@@ -44,8 +44,8 @@ fn lower_ceilings<S: ListingSource>(
     rows: usize,
 ) -> Result<Lowered, Refusal>
     requires in_bounds { 256 ≤ length sheet.old }
-    requires all { All (λ c. is_path c.path ≡ true) (map row_names ceilings.now) }
-    requires ascending_rows { AscendingRows (map row_names ceilings.now) × All (λ c. c.path ≢ path_bytes main.now) (map row_names ceilings.now) }
+    requires all { AllByRecursion (λ c. is_path c.path ≡ true) (map row_names ceilings.now) }
+    requires ascending_rows { AscendingRows (map row_names ceilings.now) × AllByRecursion (λ c. c.path ≢ path_bytes main.now) (map row_names ceilings.now) }
     ensures same { S.Source.meaning source.new ≡ S.Source.meaning source.old }
     ensures inside { S.Source.inside source.new ≡ S.Source.inside source.old }
     ensures value { reply_of result ≡ replied (lower_walk_from (seen_by (path_bytes main.now) (S.Source.meaning source.old)) (map row_names ceilings.now)).end (length (lower_walk_from (seen_by (path_bytes main.now) (S.Source.meaning source.old)) (map row_names ceilings.now)).sheet) rows }
@@ -79,8 +79,8 @@ fn lower_rows<S: ListingSource>(
     sheet: &mut [Place],
 ) -> Result<Lowered, Refusal>
     requires in_bounds { (256 ≤ length sheet.old) × (length rows.now ≤ 255) }
-    requires all { All (λ c. is_path c.path ≡ true) (map row_names rows.now) }
-    requires ascending_rows { AscendingRows (map row_names rows.now) × All (λ c. c.path ≢ path_bytes main.now) (map row_names rows.now) }
+    requires all { AllByRecursion (λ c. is_path c.path ≡ true) (map row_names rows.now) }
+    requires ascending_rows { AscendingRows (map row_names rows.now) × AllByRecursion (λ c. c.path ≢ path_bytes main.now) (map row_names rows.now) }
     ensures same { S.Source.meaning source.new ≡ S.Source.meaning source.old }
     ensures inside { S.Source.inside source.new ≡ S.Source.inside source.old }
     ensures value { reply_of result ≡ (if lowerable (path_bytes path.now) (version_bytes version.now) (map row_names rows.now) then replied (lower_walk_from (seen_by (path_bytes main.now) (S.Source.meaning source.old)) (map (ceiling_over (path_bytes path.now) (version_bytes version.now)) (map row_names rows.now))).end (length (lower_walk_from (seen_by (path_bytes main.now) (S.Source.meaning source.old)) (map (ceiling_over (path_bytes path.now) (version_bytes version.now)) (map row_names rows.now))).sheet) (length rows.now + 1) else refused (refusal_for nothing_to_change)) }

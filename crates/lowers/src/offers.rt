@@ -2,7 +2,7 @@
 // sheet path by path, from place 0. A fault of a listing stops it, and names no place of the sheet.
 ghost use Rattle.std.specs.Prelude.{◌≡◌, ◌≤◌, true, [], ◌∷◌, map, length, take, if◌then◌else◌};
 ghost use Rattle.std.specs.Ordering.{is_le};
-ghost use Rattle.std.specs.List.{AllByRecursion as All};
+ghost use Rattle.std.specs.List.{AllByRecursion};
 ghost use Rattle.rules.specs.Paths.{is_path};
 ghost use Rattle.rules.specs.Versions.{version_order};
 ghost use Rattle.rules.specs.Names.{at as named};
@@ -121,7 +121,7 @@ pub(crate) fn write_offers<S: ListingSource>(
     count: usize,
 ) -> Result<usize, Stop>
     requires count_bound { (count ≤ 256) × (256 ≤ length sheet.old) }
-    requires all { All (λ c. is_path c.path ≡ true) (map row_names ceilings.now) }
+    requires all { AllByRecursion (λ c. is_path c.path ≡ true) (map row_names ceilings.now) }
     ensures same { S.Source.meaning source.new ≡ S.Source.meaning source.old }
     ensures inside { S.Source.inside source.new ≡ S.Source.inside source.old }
     ensures value { Tells (offers_written (S.Source.meaning source.old) (ended done) (map row_names ceilings.now) (map place_of (take count sheet.old))) result sheet.new }

@@ -1,6 +1,6 @@
 // Lower under ceilings: the sheet is written anew, the places are questioned, the marks spread, and the rows are kept.
 ghost use Rattle.std.specs.Prelude.{◌≡◌, ◌≤◌, true, map, length, IfOk, ◌≢◌};
-ghost use Rattle.std.specs.List.{AllByRecursion as All};
+ghost use Rattle.std.specs.List.{AllByRecursion};
 ghost use Rattle.rules.specs.Texts.{every};
 ghost use Rattle.rules.specs.Paths.{is_path};
 ghost use Rattle.rules.specs.Names.{is_module_version};
@@ -42,7 +42,7 @@ fn start_sheet<S: ListingSource>(
     sheet: &mut [Place],
 ) -> Result<usize, Stop>
     requires in_bounds { 256 ≤ length sheet.old }
-    requires all { All (λ c. is_path c.path ≡ true) (map row_names ceilings.now) }
+    requires all { AllByRecursion (λ c. is_path c.path ≡ true) (map row_names ceilings.now) }
     ensures same { S.Source.meaning source.new ≡ S.Source.meaning source.old }
     ensures inside { S.Source.inside source.new ≡ S.Source.inside source.old }
     ensures value { Tells (offers_written (S.Source.meaning source.old) (ended done) (map row_names ceilings.now) (first_sheet (bare (path_bytes main.now)))) result sheet.new }
@@ -62,8 +62,8 @@ pub(crate) fn lower_under<S: ListingSource>(
     sheet: &mut [Place],
 ) -> Result<Under, Stop>
     requires in_bounds { 256 ≤ length sheet.old }
-    requires all { All (λ c. is_path c.path ≡ true) (map row_names ceilings.now) }
-    requires ascending_rows { AscendingRows (map row_names ceilings.now) × All (λ c. c.path ≢ path_bytes main.now) (map row_names ceilings.now) }
+    requires all { AllByRecursion (λ c. is_path c.path ≡ true) (map row_names ceilings.now) }
+    requires ascending_rows { AscendingRows (map row_names ceilings.now) × AllByRecursion (λ c. c.path ≢ path_bytes main.now) (map row_names ceilings.now) }
     ensures same { S.Source.meaning source.new ≡ S.Source.meaning source.old }
     ensures inside { S.Source.inside source.new ≡ S.Source.inside source.old }
     ensures value { Tells (lower_walk_from (seen_by (path_bytes main.now) (S.Source.meaning source.old)) (map row_names ceilings.now)) (places_under result) sheet.new }

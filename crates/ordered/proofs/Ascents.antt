@@ -1,7 +1,7 @@
 -- The test of ascending lists, and that it is still passed after an entry, a removal and a joining. Assumes nothing.
 use Rattle.std.proofs.Common.{◌≡◌, true, false, List, [], ◌∷◌, Ordering, Less, Equal, Greater, sym, refl, ap, subst}
 use Rattle.std.specs.Ordering.{is_lt}
-use Rattle.std.specs.List.{AllByRecursion as All}
+use Rattle.std.specs.List.{AllByRecursion}
 use Rattle.std.proofs.lemmas.Bool.{and_parts, and_from, both_ways}
 use Rattle.rules.specs.Orders.{Laws}
 use Rattle.rules.specs.Tables.{Ascending, Meets, entered, joined, removed}
@@ -14,13 +14,13 @@ less Equal e = absurd (both_ways false refl e)
 less Greater e = absurd (both_ways false refl e)
 
 module _ {A K : Type 0} (key : A → K) (order : K → K → Ordering) where
-  before_all : (x : A) (xs : List A) → is_before key order x xs ≡ true → All (λ y. order (key x) (key y) ≡ Less) xs
+  before_all : (x : A) (xs : List A) → is_before key order x xs ≡ true → AllByRecursion (λ y. order (key x) (key y) ≡ Less) xs
   before_all x [] e = tt
   before_all x (y ∷ ys) e =
       let (here, there) = and_parts (is_lt (order (key x) (key y))) (is_before key order x ys) e in
       (less (order (key x) (key y)) here, before_all x ys there)
 
-  all_before : (x : A) (xs : List A) → All (λ y. order (key x) (key y) ≡ Less) xs → is_before key order x xs ≡ true
+  all_before : (x : A) (xs : List A) → AllByRecursion (λ y. order (key x) (key y) ≡ Less) xs → is_before key order x xs ≡ true
   all_before x [] h = refl
   all_before x (y ∷ ys) h = and_from (is_lt (order (key x) (key y))) (is_before key order x ys) (ap is_lt h.0) (all_before x ys h.1)
 

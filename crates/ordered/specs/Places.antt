@@ -2,7 +2,7 @@
 use Rattle.std.specs.Prelude.{◌≡◌, ℕ, suc, ◌≤◌, ◌↔◌, List, [], ◌∷◌, length, take, drop, Ok, Err, Result}
 use Rattle.std.specs.declared.cmp.Ordering.TheVariants.{Less, Equal, Greater}
 use Rattle.std.specs.declared.cmp.Ordering.{Ordering}
-use Rattle.std.specs.List.{AllByRecursion as All}
+use Rattle.std.specs.List.{AllByRecursion}
 
 -- a place in the tail of a list, counted from the list's first item
 abbrev pub later : Result ℕ ℕ → Result ℕ ℕ
@@ -36,8 +36,8 @@ module _ {A K : Type 0} (key : A → K) (order : K → K → Ordering) where
 
   -- r is the place of k: all before it are below k, and what stands there is at k (Ok), or above it or nothing (Err)
   abbrev pub Placed : K → List A → Result ℕ ℕ → Type 0
-  Placed k xs (Ok i) = All (λ y. order k (key y) ≡ Greater) (take i xs) × GoesOnAt k (drop i xs)
-  Placed k xs (Err i) = All (λ y. order k (key y) ≡ Greater) (take i xs) × GoesOnAbove k (drop i xs) × (i ≤ length xs)
+  Placed k xs (Ok i) = AllByRecursion (λ y. order k (key y) ≡ Greater) (take i xs) × GoesOnAt k (drop i xs)
+  Placed k xs (Err i) = AllByRecursion (λ y. order k (key y) ≡ Greater) (take i xs) × GoesOnAbove k (drop i xs) × (i ≤ length xs)
 
 -- THE PLACE: by every key and every order there is one place, and it is the one that is sought
 abbrev pub PlacesRight : Type 0 → Type 0 → Type 0

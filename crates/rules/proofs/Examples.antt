@@ -2,7 +2,7 @@
 use Rattle.std.proofs.Common.{◌≡◌, ℕ, ◌≤◌, Bool, true, false, cond, ◌&&◌, leb, ◌⊎◌, List, [], ◌∷◌, map, length, Some, None, filter, Option, Less, sym, refl, ap, ◌∙◌, subst, inl, inr, ⊎_elim, arith}
 use lib.ListN.{length-map}
 use Rattle.std.specs.Ordering.{is_eq, ordering_then}
-use Rattle.std.specs.List.{AllByRecursion as All}
+use Rattle.std.specs.List.{AllByRecursion}
 use Rattle.std.proofs.ByRecursion.{All-map}
 use Rattle.std.proofs.lemmas.Bool.{leb-true, and_parts}
 use Rattle.rules.specs.Orders.{Bytes, lexical}
@@ -28,7 +28,7 @@ use Rattle.rules.proofs.Layers.{kept_length, fallback_lawful}
 same_path_less : (x y : ModuleVersion) → x.path ≡ y.path → module_order x y ≡ Less → version_order x.version y.version ≡ Less
 same_path_less x y p e = sym (ap (λ o. ordering_then o (version_order x.version y.version)) (ap (path_order x.path) (sym p) ∙ paths.same x.path)) ∙ e
 
-versions_ascend : (p : Bytes) (es : Book) → Ascending title module_order es → All (λ e. (title e).path ≡ p) es → AscendingVersions (map (λ e. (title e).version) es)
+versions_ascend : (p : Bytes) (es : Book) → Ascending title module_order es → AllByRecursion (λ e. (title e).path ≡ p) es → AscendingVersions (map (λ e. (title e).version) es)
 versions_ascend p [] a h = tt
 versions_ascend p (e ∷ es) a h = (
   All-map _ (λ e. (title e).version) es
@@ -43,7 +43,7 @@ well e = leb (length e.1) 64 && (every is_module_version e.1 && is_version (titl
 abbrev well_written : Book → Bool
 well_written es = leb (length es) 64 && every well es
 
-all_every : {A : Type 0} (test : A → Bool) (xs : List A) → every test xs ≡ true → All (λ x. test x ≡ true) xs
+all_every : {A : Type 0} (test : A → Bool) (xs : List A) → every test xs ≡ true → AllByRecursion (λ x. test x ≡ true) xs
 all_every test [] t = tt
 all_every test (x ∷ xs) t = let (h, k) = and_parts (test x) (every test xs) t in (h, all_every test xs k)
 
@@ -60,7 +60,7 @@ module _ (es : Book) (a : Ascending title module_order es) (w : well_written es 
   few = leb-true (length es) 64 (and_parts (leb (length es) 64) (every well es) w).0
 
   -- an edition of the book
-  edition : (f : ModuleVersion × List ModuleVersion) → f ∈ es → (length f.1 ≤ 64) × All (λ r. is_module_version r ≡ true) f.1 × (is_version (title f).version ≡ true)
+  edition : (f : ModuleVersion × List ModuleVersion) → f ∈ es → (length f.1 ≤ 64) × AllByRecursion (λ r. is_module_version r ≡ true) f.1 × (is_version (title f).version ≡ true)
   edition f h =
       let t = all_member _ es (all_every well es (and_parts (leb (length es) 64) (every well es) w).1) f h in
       let (n, r) = and_parts (leb (length f.1) 64) (every is_module_version f.1 && is_version (title f).version) t in
@@ -84,7 +84,7 @@ module _ (es : Book) (a : Ascending title module_order es) (w : well_written es 
   few_editions : (p : Bytes) → length (editions es p) ≤ 64
   few_editions p = omega (arith, few, length-map (on p) (λ e. (title e).version), kept_length (λ g. same_path (title g) p) es)
 
-  formed : (p : Bytes) → All (λ v. is_version v ≡ true) (editions es p)
+  formed : (p : Bytes) → AllByRecursion (λ v. is_version v ≡ true) (editions es p)
   formed p = All-map _ (λ e. (title e).version) (on p) (all_from_members _ (on p) (λ f k. (edition f (kept_was (λ g. same_path (title g) p) es f k).0).2))
 
   holds : (p v : Bytes) (rs : List ModuleVersion) → (book es).requirements (at p v) ≡ found rs → v ∈ editions es p
@@ -96,9 +96,9 @@ module _ (es : Book) (a : Ascending title module_order es) (w : well_written es 
   book_lawful : Lawful (book es)
   book_lawful = record {
     few_rows = λ x rs q. let (f, h, t, r) = found_edition x rs q in subst (λ ys. length ys ≤ 64) r (edition f h).0;
-    rows_formed = λ x rs q. let (f, h, t, r) = found_edition x rs q in subst (All (λ y. is_module_version y ≡ true)) r (edition f h).1;
+    rows_formed = λ x rs q. let (f, h, t, r) = found_edition x rs q in subst (AllByRecursion (λ y. is_module_version y ≡ true)) r (edition f h).1;
     few_versions = λ p vs e. let all : editions es p ≡ vs = cc in subst (λ ys. length ys ≤ 64) all (few_editions p);
-    versions_formed = λ p vs e. let all : editions es p ≡ vs = cc in subst (All (λ v. is_version v ≡ true)) all (formed p);
+    versions_formed = λ p vs e. let all : editions es p ≡ vs = cc in subst (AllByRecursion (λ v. is_version v ≡ true)) all (formed p);
     ascending = λ p vs e. let all : editions es p ≡ vs = cc in subst AscendingVersions all (ascends p);
     whole = λ p vs e v rs q. let all : editions es p ≡ vs = cc in subst (λ ys. v ∈ ys) all (holds p v rs q);
     requirements_depth = λ x f q. entry_depth (lookup title module_order x es) f q;
@@ -205,9 +205,9 @@ tops_formed = all_member (λ x. every is_module_version (fan x.path) ≡ true) t
 fans_lawful : Lawful fans
 fans_lawful = record {
   few_rows = λ x rs e. ⊎_elim (λ (h, q). subst (λ ys. length ys ≤ 64) q (omega arith)) (λ q. subst (λ (ys : List ModuleVersion). length ys ≤ 64) q (omega arith)) (fan_found x rs e).1;
-  rows_formed = λ x rs e. ⊎_elim (λ (h, q). subst (All (λ y. is_module_version y ≡ true)) q (all_every is_module_version (fan x.path) (tops_formed x h))) (λ q. subst (All (λ y. is_module_version y ≡ true)) q tt) (fan_found x rs e).1;
+  rows_formed = λ x rs e. ⊎_elim (λ (h, q). subst (AllByRecursion (λ y. is_module_version y ≡ true)) q (all_every is_module_version (fan x.path) (tops_formed x h))) (λ q. subst (AllByRecursion (λ y. is_module_version y ≡ true)) q tt) (fan_found x rs e).1;
   few_versions = λ p vs e. let one : v1 ∷ [] ≡ vs = cc in subst (λ ys. length ys ≤ 64) one (omega arith);
-  versions_formed = λ p vs e. let one : v1 ∷ [] ≡ vs = cc in subst (All (λ v. is_version v ≡ true)) one (refl, tt);
+  versions_formed = λ p vs e. let one : v1 ∷ [] ≡ vs = cc in subst (AllByRecursion (λ v. is_version v ≡ true)) one (refl, tt);
   ascending = λ p vs e. let one : v1 ∷ [] ≡ vs = cc in subst AscendingVersions one (tt, tt);
   whole = λ p vs e v rs q. let one : v1 ∷ [] ≡ vs = cc in subst (λ ys. v ∈ ys) one (inl (fan_found (at p v) rs q).0);
   requirements_depth = λ x f e. by_version x f (is_eq (version_order x.version v1)) e;
@@ -229,7 +229,7 @@ infixr 20 ◌&◌
 x & y = (x, y)
 
 -- in the order of the cases
-sources_lawful : All (λ c. Lawful c.0) cases
+sources_lawful : AllByRecursion (λ c. Lawful c.0) cases
 sources_lawful =
     nothing_lawful
     & network_lawful & network_lawful & network_lawful & network_lawful & network_lawful & network_lawful & network_lawful & network_lawful & network_lawful

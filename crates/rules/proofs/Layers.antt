@@ -1,7 +1,7 @@
 -- The layers over lawful meanings, what they answer, and piles of them. Assumes nothing.
 use Rattle.std.proofs.Common.{◌≡◌, ℕ, ◌+◌, ◌≤◌, Bool, true, false, cond, not, ltb, ◌⊎◌, ◌↔◌, List, [], ◌∷◌, length, filter, sym, refl, ap, ◌∙◌, subst, inl, inr, ⊎_elim, true≢false, arith}
 use native.Mathlib.Nat.{min-le_left, min-eq_left, min-eq_right}
-use Rattle.std.specs.List.{AllByRecursion as All}
+use Rattle.std.specs.List.{AllByRecursion}
 use Rattle.std.proofs.lemmas.List.Filters.{length-filter_both}
 use Rattle.std.proofs.lemmas.Bool.{ltb-true, ltb-false, lt-ltb, le-ltb, cases_Bool, not-true, not-false}
 use Rattle.rules.specs.Orders.{Bytes}
@@ -38,7 +38,7 @@ passed_255 (fault f) g e = let q : deeper f ≡ g = cc in subst (λ h. h.depth �
 pub kept_length : {A : Type 0} (test : A → Bool) (xs : List A) → length (filter test xs) ≤ length xs
 kept_length test xs = omega (arith, length-filter_both test (λ x. not (test x)) (λ x. refl) xs)
 
-all_kept : {A : Type 0} (P : A → Type 0) (test : A → Bool) (xs : List A) → All P xs → All P (filter test xs)
+all_kept : {A : Type 0} (P : A → Type 0) (test : A → Bool) (xs : List A) → AllByRecursion P xs → AllByRecursion P (filter test xs)
 all_kept P test xs h = all_from_members P (filter test xs) (λ x k. all_member P xs h x (kept_was test xs x k).0)
 
 -- the exclude layer

@@ -1,6 +1,6 @@
 -- A list that is given is the least that is fit. Assumes nothing.
 use Rattle.std.proofs.Common.{◌≡◌, not, List, ◌∷◌, sym, refl, ap, ◌∙◌, subst, inl, inr, ⊎_elim}
-use Rattle.std.specs.List.{AllByRecursion as All}
+use Rattle.std.specs.List.{AllByRecursion}
 use Rattle.rules.specs.Names.{ModuleVersion, same_path, Stands, ◌∈◌}
 use Rattle.rules.specs.Sources.{Meaning}
 use Rattle.rules.specs.Projects.{State, main_row, off_main, Reached}
@@ -26,7 +26,7 @@ module _ (s : State) where
   )
 
   -- behind the main row
-  nowhere_behind : (xs ys : List ModuleVersion) → All (λ x. x.path ≡ s.main → ⊥) xs → NowhereAbove (main_row s ∷ xs) (main_row s ∷ ys) → NowhereAbove xs ys
+  nowhere_behind : (xs ys : List ModuleVersion) → AllByRecursion (λ x. x.path ≡ s.main → ⊥) xs → NowhereAbove (main_row s ∷ xs) (main_row s ∷ ys) → NowhereAbove xs ys
   nowhere_behind xs ys apart f x h =
       let (y, k, p, u) = f x (inr h) in
       ⊎_elim (λ e. absurd (all_member _ xs apart x h (p ∙ ap (λ w. w.path) e))) (λ j. (y, j, p, u)) k

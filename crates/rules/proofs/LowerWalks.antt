@@ -1,6 +1,6 @@
 -- Lower's own walk: what its sheet holds, when it is done, and what it shows if it is not. Assumes nothing.
 use Rattle.std.proofs.Common.{◌≡◌, ℕ, zero, suc, ◌<◌, ◌≤◌, Bool, true, false, cond, ◌⊎◌, List, [], ◌∷◌, ◌++◌, length, take, Some, sym, refl, ap, ◌∙◌, subst, inl, inr, ⊎_elim, true≢false, arith}
-use Rattle.std.specs.List.{slice_get, AllByRecursion as All}
+use Rattle.std.specs.List.{slice_get, AllByRecursion}
 use Rattle.std.proofs.lemmas.Bool.{cases_Bool}
 use Rattle.rules.specs.Names.{ModuleVersion, has, ◌∈◌, Distinct}
 use Rattle.rules.specs.Causes.{Fault, is_missing}
@@ -29,19 +29,19 @@ first_push sheet x k ahead old i j q r pos lt ni nj z = by_later (nth_pushed she
         ⊎_elim (λ h. old i j q r pos lt h n z) (λ h. absurd (omega (arith, h.0, nth_within sheet j r n))) (nth_pushed sheet (placed x k) i q ni)
     by_later (inr h) = by_earlier h (nth_pushed sheet (placed x k) i q ni)
 
-written_first : (xs : List ModuleVersion) (sheet : List Place) → Ordered xs → ((i : ℕ) (r : Place) → 0 < i → slice_get sheet i ≡ Some r → (r.from ≡ 0) × All (Ahead r.row) xs)
+written_first : (xs : List ModuleVersion) (sheet : List Place) → Ordered xs → ((i : ℕ) (r : Place) → 0 < i → slice_get sheet i ≡ Some r → (r.from ≡ 0) × AllByRecursion (Ahead r.row) xs)
     → OffersFirst sheet → OffersFirst (written 0 xs sheet)
 written_first [] sheet o h f = f
 written_first (x ∷ xs) sheet o h f = go (λ w. written_first xs w o.1) (has (module_versions sheet) x)
   where
-    before : (i : ℕ) (r : Place) → 0 < i → slice_get sheet i ≡ Some r → (r.from ≡ 0) × All (Ahead r.row) xs
+    before : (i : ℕ) (r : Place) → 0 < i → slice_get sheet i ≡ Some r → (r.from ≡ 0) × AllByRecursion (Ahead r.row) xs
     before i r p n = let (z, a) = h i r p n in (z, a.1)
 
-    after : (i : ℕ) (r : Place) → 0 < i → slice_get (sheet ++ placed x 0 ∷ []) i ≡ Some r → (r.from ≡ 0) × All (Ahead r.row) xs
+    after : (i : ℕ) (r : Place) → 0 < i → slice_get (sheet ++ placed x 0 ∷ []) i ≡ Some r → (r.from ≡ 0) × AllByRecursion (Ahead r.row) xs
     after i r p n =
-        ⊎_elim (before i r p) (λ (e, same). subst (λ (w : Place). (w.from ≡ 0) × All (Ahead w.row) xs) same (refl, o.0)) (nth_pushed sheet (placed x 0) i r n)
+        ⊎_elim (before i r p) (λ (e, same). subst (λ (w : Place). (w.from ≡ 0) × AllByRecursion (Ahead w.row) xs) same (refl, o.0)) (nth_pushed sheet (placed x 0) i r n)
 
-    go : ((w : List Place) → ((i : ℕ) (r : Place) → 0 < i → slice_get w i ≡ Some r → (r.from ≡ 0) × All (Ahead r.row) xs) → OffersFirst w → OffersFirst (written 0 xs w))
+    go : ((w : List Place) → ((i : ℕ) (r : Place) → 0 < i → slice_get w i ≡ Some r → (r.from ≡ 0) × AllByRecursion (Ahead r.row) xs) → OffersFirst w → OffersFirst (written 0 xs w))
         → (b : Bool) → OffersFirst (written 0 xs (cond b sheet (sheet ++ placed x 0 ∷ [])))
     go on true = on sheet before f
     go on false = on (sheet ++ placed x 0 ∷ []) after (first_push sheet x 0 (λ i q p n z. let (e, a) = h i q p n in (e, a.0)) f)

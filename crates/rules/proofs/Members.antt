@@ -1,7 +1,7 @@
 -- Members of lists: the test `has`, what a filter keeps, and how many distinct members a list can have. Assumes nothing.
 use Rattle.std.proofs.Common.{◌≡◌, suc, ◌≤◌, Bool, true, false, cond, ◌⊎◌, List, [], ◌∷◌, ◌++◌, map, length, filter, sym, refl, ap, ◌∙◌, inl, inr, ⊎_elim, true≢false, suc-le-suc, zero-le}
 use Rattle.std.specs.Ordering.{is_eq}
-use Rattle.std.specs.List.{AllByRecursion as All}
+use Rattle.std.specs.List.{AllByRecursion}
 use Rattle.std.proofs.lemmas.Bool.{and_parts, and_from, or_cases, or_left, or_right}
 use Rattle.rules.specs.Paths.{path_order}
 use Rattle.rules.specs.Versions.{version_order}
@@ -54,12 +54,12 @@ member_map f [] x h = absurd h
 member_map f (y ∷ ys) x (inl e) = inl (ap f e)
 member_map f (y ∷ ys) x (inr h) = inr (member_map f ys x h)
 
-pub all_member : {A : Type 0} (P : A → Type 0) (xs : List A) → All P xs → (x : A) → x ∈ xs → P x
+pub all_member : {A : Type 0} (P : A → Type 0) (xs : List A) → AllByRecursion P xs → (x : A) → x ∈ xs → P x
 all_member P [] h x k = absurd k
 all_member P (y ∷ ys) h x (inl e) = rw e h.0
 all_member P (y ∷ ys) h x (inr k) = all_member P ys h.1 x k
 
-pub all_from_members : {A : Type 0} (P : A → Type 0) (xs : List A) → ((x : A) → x ∈ xs → P x) → All P xs
+pub all_from_members : {A : Type 0} (P : A → Type 0) (xs : List A) → ((x : A) → x ∈ xs → P x) → AllByRecursion P xs
 all_from_members P [] h = tt
 all_from_members P (y ∷ ys) h = (h y (inl refl), all_from_members P ys (λ x k. h x (inr k)))
 

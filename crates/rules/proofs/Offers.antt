@@ -1,7 +1,7 @@
 -- What a lower offers and asks: ceilings, listings under the exclude layer, and remaining requirements off the main path. Assumes nothing.
 use Rattle.std.proofs.Common.{◌≡◌, ℕ, ◌<◌, ◌≤◌, Bool, true, false, cond, ◌&&◌, ltb, List, [], ◌∷◌, ◌++◌, map, length, sym, refl, ap, ◌∙◌, subst, inl, inr, ⊎_elim, true≢false, arith}
 use Rattle.std.specs.Ordering.{is_lt, is_le, is_eq}
-use Rattle.std.specs.List.{AllByRecursion as All}
+use Rattle.std.specs.List.{AllByRecursion}
 use Rattle.std.proofs.ByRecursion.{All-map}
 use Rattle.std.proofs.lemmas.List.{append_assoc}
 use Rattle.std.proofs.lemmas.Bool.{and_parts, and_from, or_cases, or_left, or_right, ltb-true, ltb-false, cases_Bool}
@@ -68,7 +68,7 @@ ceilings_apart s p v l (xs, e, a, apart) c h q =
 pub ceilings_ascend : (s : State) (p v : Bytes) (l : List ModuleVersion) → IsList s l → AscendingRows (ceilings p v l)
 ceilings_ascend s p v l (xs, e, a, apart) = subst (λ z. AscendingRows (ceilings p v z)) (sym e) (under xs a)
   where
-    below : (x : ModuleVersion) (ys : List ModuleVersion) → All (λ y. Before x.path y.path) ys → All (λ y. Before (ceiling_of p v x).path y.path) (map (ceiling_of p v) ys)
+    below : (x : ModuleVersion) (ys : List ModuleVersion) → AllByRecursion (λ y. Before x.path y.path) ys → AllByRecursion (λ y. Before (ceiling_of p v x).path y.path) (map (ceiling_of p v) ys)
     below x ys h = All-map _ (ceiling_of p v) ys (all_from_members _ ys (λ y k. rw (ceiling_path p v x, ceiling_path p v y) (all_member _ ys h y k)))
 
     under : (ys : List ModuleVersion) → AscendingRows ys → AscendingRows (map (ceiling_of p v) ys)
@@ -136,7 +136,7 @@ module _ (n : Meaning) where
 -- each is ahead of all that follow it
 abbrev pub Ordered : List ModuleVersion → Type 0
 Ordered [] = Unit {0}
-Ordered (x ∷ xs) = All (Ahead x) xs × Ordered xs
+Ordered (x ∷ xs) = AllByRecursion (Ahead x) xs × Ordered xs
 
 ordered_append : (xs ys : List ModuleVersion) → Ordered xs → Ordered ys → ((x y : ModuleVersion) → x ∈ xs → y ∈ ys → Ahead x y) → Ordered (xs ++ ys)
 ordered_append [] ys a b h = b

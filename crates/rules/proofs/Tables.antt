@@ -2,7 +2,7 @@
 use Rattle.std.proofs.Common.{◌≡◌, ℕ, suc, ◌+◌, ◌≤◌, Bool, true, false, cond, not, ◌⊎◌, ◌↔◌, List, [], ◌∷◌, ◌++◌, map, length, Some, None, filter, Option, Ordering, Less, Equal, Greater, sym, refl, ap, ◌∙◌, subst, ap₂, inl, inr, ⊎_elim, arith}
 use Rattle.std.specs.Option.{option_map}
 use Rattle.std.specs.Ordering.{is_eq, ordering_reverse}
-use Rattle.std.specs.List.{AllByRecursion as All}
+use Rattle.std.specs.List.{AllByRecursion}
 use Rattle.std.proofs.ByRecursion.{All-weaker, all_kept_by, All-map}
 use Rattle.std.proofs.lemmas.List.{append_assoc}
 use Rattle.std.proofs.lemmas.Bool.{not-true}
@@ -13,7 +13,7 @@ use Rattle.rules.proofs.Order.{before_not_equal, Ways, ways, before, equal, afte
 use Rattle.rules.proofs.Members.{all_member, all_from_members, kept_member, kept_was, member_right, member_map}
 
 -- a filter that all pass keeps all
-pub kept_all : {A : Type 0} (test : A → Bool) (xs : List A) → All (λ x. test x ≡ true) xs → filter test xs ≡ xs
+pub kept_all : {A : Type 0} (test : A → Bool) (xs : List A) → AllByRecursion (λ x. test x ≡ true) xs → filter test xs ≡ xs
 kept_all test [] h = refl
 kept_all test (x ∷ xs) h = ap₂ (λ b ys. cond b (x ∷ ys) ys) h.0 (kept_all test xs h.1)
 
@@ -31,18 +31,18 @@ module _ {A K : Type 0} (key : A → K) (order : K → K → Ordering) where
 
   -- a table is searched past the items that stand before a key
 
-  pub lookup_past : (k : K) (front back : List A) → All (λ y. order k (key y) ≡ Greater) front → lookup key order k (front ++ back) ≡ lookup key order k back
+  pub lookup_past : (k : K) (front back : List A) → AllByRecursion (λ y. order k (key y) ≡ Greater) front → lookup key order k (front ++ back) ≡ lookup key order k back
   lookup_past k [] back h = refl
   lookup_past k (y ∷ front) back h = ap (λ r. lookup_by key order r y (lookup key order k (front ++ back))) h.0 ∙ lookup_past k front back h.1
 
-  pub entered_past : (meet : A → A → A) (x : A) (front back : List A) → All (λ y. order (key x) (key y) ≡ Greater) front
+  pub entered_past : (meet : A → A → A) (x : A) (front back : List A) → AllByRecursion (λ y. order (key x) (key y) ≡ Greater) front
       → entered key order meet x (front ++ back) ≡ front ++ entered key order meet x back
   entered_past meet x [] back h = refl
   entered_past meet x (y ∷ front) back h =
       ap (λ r. entered_by key order r meet x y (front ++ back) (entered key order meet x (front ++ back))) h.0
       ∙ ap (λ ys. y ∷ ys) (entered_past meet x front back h.1)
 
-  pub removed_past : (k : K) (front back : List A) → All (λ y. order k (key y) ≡ Greater) front → removed key order k (front ++ back) ≡ front ++ removed key order k back
+  pub removed_past : (k : K) (front back : List A) → AllByRecursion (λ y. order k (key y) ≡ Greater) front → removed key order k (front ++ back) ≡ front ++ removed key order k back
   removed_past k [] back h = refl
   removed_past k (y ∷ front) back h =
       ap (λ r. removed_by key order r y (front ++ back) (removed key order k (front ++ back))) h.0
@@ -100,7 +100,7 @@ module _ {A K : Type 0} (key : A → K) (order : K → K → Ordering) where
   back_ascending (x ∷ front) back a = back_ascending front back a.1
 
   -- what stands in front stands before all behind it
-  pub front_before : (front : List A) (x : A) (back : List A) → Ascending key order (front ++ x ∷ back) → All (λ y. order (key y) (key x) ≡ Less) front
+  pub front_before : (front : List A) (x : A) (back : List A) → Ascending key order (front ++ x ∷ back) → AllByRecursion (λ y. order (key y) (key x) ≡ Less) front
   front_before [] x back a = tt
   front_before (y ∷ front) x back a = (all_member _ (front ++ x ∷ back) a.0 x (member_right front (x ∷ back) x (inl refl)), front_before front x back a.1)
 
@@ -291,13 +291,13 @@ module _ {A K : Type 0} (key : A → K) (order : K → K → Ordering) (o : Tota
         go below Greater e (inr k) = ap suc (below k)
 
     -- behind all items it is appended
-    pub entered_last : (x : A) (t : List A) → All (λ y. order (key y) (key x) ≡ Less) t → entered key order meet x t ≡ t ++ x ∷ []
+    pub entered_last : (x : A) (t : List A) → AllByRecursion (λ y. order (key y) (key x) ≡ Less) t → entered key order meet x t ≡ t ++ x ∷ []
     entered_last x [] h = refl
     entered_last x (y ∷ ys) h =
         ap (λ r. entered_by key order r meet x y ys (entered key order meet x ys)) (back_of h.0) ∙ ap (λ zs. y ∷ zs) (entered_last x ys h.1)
 
     -- before all items it is put in front
-    pub entered_first : (x : A) (t : List A) → All (λ y. order (key x) (key y) ≡ Less) t → entered key order meet x t ≡ x ∷ t
+    pub entered_first : (x : A) (t : List A) → AllByRecursion (λ y. order (key x) (key y) ≡ Less) t → entered key order meet x t ≡ x ∷ t
     entered_first x [] h = refl
     entered_first x (y ∷ ys) h = ap (λ r. entered_by key order r meet x y ys (entered key order meet x ys)) h.0
 

@@ -1,7 +1,7 @@
 -- The calls keep both tables ascending and in bounds. Assumes nothing.
 use Rattle.std.proofs.Common.{◌≡◌, ◌≤◌, Bool, true, false, cond, leb, List, [], ◌∷◌, length, Some, None, Option, refl, arith}
 use Rattle.std.specs.Ordering.{is_le}
-use Rattle.std.specs.List.{AllByRecursion as All}
+use Rattle.std.specs.List.{AllByRecursion}
 use Rattle.std.proofs.lemmas.Bool.{leb-false}
 use Rattle.rules.specs.Orders.{Bytes}
 use Rattle.rules.specs.Paths.{path_order}
@@ -122,7 +122,7 @@ module _ (m : Meaning) (s : State) (t : Tidy s) where
   does_tidy (lower p v n) b = long_tidy n s (lowers m s p v n) t (lowers_tidy p v n)
   does_tidy (list n) b = long_tidy n s (lists m s n) t t
 
-after_tidy : (m : Meaning) (s : State) (calls : List Call) → Tidy s → All InBounds calls → Tidy (after m s calls)
+after_tidy : (m : Meaning) (s : State) (calls : List Call) → Tidy s → AllByRecursion InBounds calls → Tidy (after m s calls)
 after_tidy m s [] t b = t
 after_tidy m s (c ∷ cs) t b = after_tidy m (does m s c).state cs (does_tidy m s t c b.0) b.1
 

@@ -1,7 +1,7 @@
 -- What load, raise, drop and exclude do to the tables, said by what the tables hold and not by how it is computed; what they leave as it was; and
 -- when they are accepted and refused, which is exactly when no refusal applies and exactly when that one does. Assumes nothing.
 use Rattle.std.specs.Prelude.{◌≡◌, ℕ, ◌<◌, ◌≤◌, ◌⊎◌, ◌↔◌, List, length, ◌≢◌}
-use Rattle.std.specs.List.{AllByRecursion as All}
+use Rattle.std.specs.List.{AllByRecursion}
 use Rattle.rules.specs.Orders.{Bytes}
 use Rattle.rules.specs.Names.{ModuleVersion, Stands, ◌∈◌}
 use Rattle.rules.specs.Rows.{NoRow}
@@ -48,4 +48,4 @@ pub record Changes (m : Meaning) (s : State) : Type 0 where
 
 -- THE CHANGES: so it is after every run whose manifests are in bounds.
 abbrev pub ChangesRight : Type 0
-ChangesRight = (m : Meaning) (calls : List Call) → All InBounds calls → Changes m (after m fresh calls)
+ChangesRight = (m : Meaning) (calls : List Call) → AllByRecursion InBounds calls → Changes m (after m fresh calls)

@@ -4,7 +4,7 @@ use Rattle.std.specs.Prelude.{◌≡◌, ℕ, suc, Bool, true, false, cond, not,
 use Rattle.std.specs.declared.cmp.Ordering.TheVariants.{Less}
 use Rattle.std.specs.declared.cmp.Ordering.{Ordering}
 use Rattle.std.specs.Ordering.{is_eq}
-use Rattle.std.specs.List.{AllByRecursion as All}
+use Rattle.std.specs.List.{AllByRecursion}
 use Rattle.rules.specs.Orders.{Bytes}
 use Rattle.rules.specs.Texts.{slash}
 use Rattle.rules.specs.Paths.{is_path}
@@ -458,7 +458,7 @@ pub record Examples : Type 0 where
   -- manifests, with room for two require rows
   pub readings : map (λ t. reading 2 t.0) texts ≡ map (λ t. t.1) texts
   pub calls : map sees cases ≡ map (λ c. c.3) cases
-  pub lawful : All (λ c. Lawful c.0) cases
+  pub lawful : AllByRecursion (λ c. Lawful c.0) cases
   -- a fallback gives the fault of its first source, of cause 3 and place 2, one deeper, whatever its second holds
   pub fallback : (first second : Meaning) (x : ModuleVersion) → first.requirements x ≡ fault (record { cause = wrong_shape; place = 2; depth = 0 })
       → (falling_back first second).requirements x ≡ fault (record { cause = wrong_shape; place = 2; depth = 1 })

@@ -1,7 +1,7 @@
 -- The list: the main row, then each other path that is reached, ascending, at the highest version that is reached. Of all lists that are fit,
 -- that is, that have each path that is reached at that version or higher, it is the one that is nowhere above any. Assumes nothing.
 use Rattle.std.specs.Prelude.{◌≡◌, ◌↔◌, List, ◌∷◌, ◌≢◌}
-use Rattle.std.specs.List.{AllByRecursion as All}
+use Rattle.std.specs.List.{AllByRecursion}
 use Rattle.rules.specs.Names.{ModuleVersion, Stands, ◌∈◌}
 use Rattle.rules.specs.Rows.{AscendingRows, table}
 use Rattle.rules.specs.Sources.{Meaning}
@@ -14,7 +14,7 @@ list_of s sheet = main_row s ∷ table (off_main s.main (module_versions sheet))
 
 -- a list, of whatever versions: the main row, then other paths, each once, ascending
 abbrev pub IsList : State → List ModuleVersion → Type 0
-IsList s l = (xs : List ModuleVersion) × (l ≡ main_row s ∷ xs) × AscendingRows xs × All (λ x. x.path ≢ s.main) xs
+IsList s l = (xs : List ModuleVersion) × (l ≡ main_row s ∷ xs) × AscendingRows xs × AllByRecursion (λ x. x.path ≢ s.main) xs
 
 -- fit: every module version that is reached stands in it, at that version or higher
 abbrev pub Fit : Meaning → State → List ModuleVersion → Type 0

@@ -2,7 +2,7 @@
 -- the least that is fit, a refusal is deserved and shown, and a lower keeps the highest rows that can stand together; when a list and a lower are
 -- accepted, what each refusal shows, and what the two slices hold after each. Assumes nothing.
 use Rattle.std.specs.Prelude.{◌≡◌, ℕ, ◌<◌, ◌≤◌, true, ◌⊎◌, ◌↔◌, List, [], ◌∷◌, length, replicate, Some, codes}
-use Rattle.std.specs.List.{slice_get, AllByRecursion as All}
+use Rattle.std.specs.List.{slice_get, AllByRecursion}
 use Rattle.rules.specs.Orders.{Bytes}
 use Rattle.rules.specs.Names.{ModuleVersion, ◌∈◌, Distinct}
 use Rattle.rules.specs.Rows.{AscendingRows, AscendingExclusions}
@@ -180,4 +180,4 @@ InBounds (list n) = Unit {0}
 
 -- THE STATE: after every run whose manifests are in bounds, both tables of the state are tables and in bounds.
 abbrev pub TidyRight : Type 0
-TidyRight = (m : Meaning) (calls : List Call) → All InBounds calls → Tidy (after m fresh calls)
+TidyRight = (m : Meaning) (calls : List Call) → AllByRecursion InBounds calls → Tidy (after m fresh calls)

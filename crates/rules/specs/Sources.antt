@@ -6,7 +6,7 @@
 -- where the first has a manifest missing, and only there; its listing is both listings joined, if both are found and together have at most 64
 -- versions. Assumes nothing.
 use Rattle.std.specs.Prelude.{◌≡◌, ◌+◌, ◌≤◌, min, true, cond, not, List, [], length, filter, nat_lt}
-use Rattle.std.specs.List.{AllByRecursion as All}
+use Rattle.std.specs.List.{AllByRecursion}
 use Rattle.rules.specs.Orders.{Bytes}
 use Rattle.rules.specs.Versions.{is_version}
 use Rattle.rules.specs.Causes.{missing, too_many_to_list, is_missing, Fault}
@@ -28,10 +28,10 @@ pub record Meaning : Type 0 where
 pub record Lawful (m : Meaning) : Type 0 where
   -- a requirement list that is found has at most 64 rows, each well formed
   pub few_rows : (x : ModuleVersion) (rs : List ModuleVersion) → m.requirements x ≡ found rs → length rs ≤ 64
-  pub rows_formed : (x : ModuleVersion) (rs : List ModuleVersion) → m.requirements x ≡ found rs → All (λ r. is_module_version r ≡ true) rs
+  pub rows_formed : (x : ModuleVersion) (rs : List ModuleVersion) → m.requirements x ≡ found rs → AllByRecursion (λ r. is_module_version r ≡ true) rs
   -- a listing that is found has at most 64 versions, ascending, and so each once
   pub few_versions : (p : Bytes) (vs : List Bytes) → m.listing p ≡ found vs → length vs ≤ 64
-  pub versions_formed : (p : Bytes) (vs : List Bytes) → m.listing p ≡ found vs → All (λ v. is_version v ≡ true) vs
+  pub versions_formed : (p : Bytes) (vs : List Bytes) → m.listing p ≡ found vs → AllByRecursion (λ v. is_version v ≡ true) vs
   pub ascending : (p : Bytes) (vs : List Bytes) → m.listing p ≡ found vs → AscendingVersions vs
   -- and holds every version of the path that has a requirement list
   pub whole : (p : Bytes) (vs : List Bytes) → m.listing p ≡ found vs → (v : Bytes) (rs : List ModuleVersion) → m.requirements (at p v) ≡ found rs → v ∈ vs

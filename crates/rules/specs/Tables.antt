@@ -4,7 +4,7 @@ use Rattle.std.specs.Prelude.{◌≡◌, suc, ◌+◌, ◌≤◌, not, ◌⊎◌
 use Rattle.std.specs.declared.cmp.Ordering.TheVariants.{Less, Equal, Greater}
 use Rattle.std.specs.declared.cmp.Ordering.{Ordering}
 use Rattle.std.specs.Ordering.{is_eq}
-use Rattle.std.specs.List.{AllByRecursion as All}
+use Rattle.std.specs.List.{AllByRecursion}
 use Rattle.rules.specs.Orders.{Laws}
 use Rattle.rules.specs.Names.{◌∈◌}
 
@@ -16,7 +16,7 @@ module _ {A K : Type 0} (key : A → K) (order : K → K → Ordering) where
   -- each item stands before all that follow it
   abbrev pub Ascending : List A → Type 0
   Ascending [] = Unit {0}
-  Ascending (x ∷ xs) = All (λ y. order (key x) (key y) ≡ Less) xs × Ascending xs
+  Ascending (x ∷ xs) = AllByRecursion (λ y. order (key x) (key y) ≡ Less) xs × Ascending xs
 
   -- A table is read from its first item on, and no further than to the key that is looked for: by how that key stands to the key of y, the
   -- head of a table.

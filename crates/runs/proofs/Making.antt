@@ -1,6 +1,6 @@
 -- One call: from what its method ensures, what the door does. Assumes nothing.
 use Rattle.std.proofs.Common.{◌≡◌, List, [], ◌∷◌, ◌++◌, Ok, Err, Result, sym, refl, ap, ◌∙◌}
-use Rattle.std.specs.List.{AllByRecursion as All}
+use Rattle.std.specs.List.{AllByRecursion}
 use Rattle.rules.specs.Sources.{Meaning, Lawful}
 use Rattle.rules.specs.Projects.{State}
 use Rattle.rules.specs.Slices.{Slices}
@@ -18,13 +18,13 @@ pub after_more : (m : Meaning) (s : State) (calls : List Call) (c : Call) → (d
 after_more m s [] c = refl
 after_more m s (d ∷ ds) c = after_more m (does m s d).state ds c
 
-pub law_at : (m : Meaning) → Lawful m → (calls : List Call) → All InBounds calls → LawAt m calls
+pub law_at : (m : Meaning) → Lawful m → (calls : List Call) → AllByRecursion InBounds calls → LawAt m calls
 law_at m law calls b = record { right = runs_right m law calls; changes = changes_right m calls b; tidy = tidy_right m calls b }
 
 -- the law, where the reply, the state and the slices are as the rules say
 pub goes_on : (m : Meaning) → Lawful m → (s : State) (c : Call) (reply : Reply) (t : State) (before slices : Slices)
     → reply ≡ (does m s c).reply → t ≡ (does m s c).state → slices ≡ leaves m s c before
-    → (calls : List Call) → All InBounds calls → s ≡ after m fresh calls → Goes_on m calls c reply t before slices
+    → (calls : List Call) → AllByRecursion InBounds calls → s ≡ after m fresh calls → Goes_on m calls c reply t before slices
 goes_on m law s c reply t before slices p q w calls b e = record {
   replied = p ∙ ap (λ (u : State). (does m u c).reply) e;
   changed = q ∙ ap (λ (u : State). (does m u c).state) e ∙ after_more m fresh calls c;

@@ -9,7 +9,7 @@ use Rattle.rules.specs.Sources.{Meaning, Lawful}
 use Rattle.rules.specs.Projects.{State}
 use Rattle.rules.specs.Slices.{Lent, Slices}
 use Rattle.rules.specs.Calls as R
-use Rattle.std.specs.List.{AllByRecursion as All}
+use Rattle.std.specs.List.{AllByRecursion}
 use Rattle.rules.specs.Orders.{Bytes}
 use Rattle.rules.specs.Manifests as M
 use Rattle.rules.proofs.Readings.{well_formed}
@@ -109,21 +109,21 @@ listing_in_bounds : (texts : Bytes) (n : Lent) (c : ListingCall) → InBounds (l
 listing_in_bounds texts n (Any c) = in_bounds texts n c
 listing_in_bounds texts n (Lower x) = tt
 
-pub all_in_bounds : (texts : Bytes) (n : Lent) (cs : L.List Call) → All InBounds (calls_of texts n cs)
+pub all_in_bounds : (texts : Bytes) (n : Lent) (cs : L.List Call) → AllByRecursion InBounds (calls_of texts n cs)
 all_in_bounds texts n [] = tt
 all_in_bounds texts n (c ∷ cs) = (in_bounds texts n c, all_in_bounds texts n cs)
 
-pub all_listing_in_bounds : (texts : Bytes) (n : Lent) (cs : L.List ListingCall) → All InBounds (listing_calls_of texts n cs)
+pub all_listing_in_bounds : (texts : Bytes) (n : Lent) (cs : L.List ListingCall) → AllByRecursion InBounds (listing_calls_of texts n cs)
 all_listing_in_bounds texts n [] = tt
 all_listing_in_bounds texts n (c ∷ cs) = (listing_in_bounds texts n c, all_listing_in_bounds texts n cs)
 
-all_first : (i : ℕ) (cs : L.List R.Call) → All InBounds cs → All InBounds (take i cs)
+all_first : (i : ℕ) (cs : L.List R.Call) → AllByRecursion InBounds cs → AllByRecursion InBounds (take i cs)
 all_first zero cs b = tt
 all_first (suc i) [] b = tt
 all_first (suc i) (c ∷ cs) (b, bs) = (b, all_first i cs bs)
 
 -- the whole run, on a fresh project
-pub runs_by : (m : Meaning) → Lawful m → (cs : List R.Call) → All InBounds cs → (t : State) (b sl : Slices) → t ≡ after m fresh cs → sl ≡ slices_after m fresh cs b → RunsBy m cs t b sl
+pub runs_by : (m : Meaning) → Lawful m → (cs : List R.Call) → AllByRecursion InBounds cs → (t : State) (b sl : Slices) → t ≡ after m fresh cs → sl ≡ slices_after m fresh cs b → RunsBy m cs t b sl
 runs_by m law cs bounds t b sl p q = record { changed = p; written = q; law = λ i l. law_at m law (take i cs) (all_first i cs bounds) }
 
 -- as many calls as there are places for replies

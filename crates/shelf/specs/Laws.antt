@@ -3,7 +3,7 @@
 use Rattle.std.specs.Prelude.{◌≡◌, ℕ, ◌+◌, ◌-◌, ◌<◌, ◌≤◌, Bool, true, false, cond, ◌⊎◌, List, [], ◌∷◌, length, is_ok, Some, Ok, Err, Result, ◌==◌, ◌≢◌, nat_le, refl}
 use Rattle.std.proofs.Common.{sym, ap, subst, ◌∙◌, inl, inr, ⊎_elim, arith}
 use Rattle.std.specs.Bool.{then_some}
-use Rattle.std.specs.List.{AllByRecursion as All}
+use Rattle.std.specs.List.{AllByRecursion}
 use Rattle.std.specs.Str.{bytes_eq}
 use Rattle.std.proofs.lemmas.Slice.Eq.{bytes_eq-Decides}
 use Rattle.std.proofs.lemmas.Bool.{eqb-true, eqb-false, eq-eqb, ne_eqb, and_parts, and_from}
@@ -137,16 +137,16 @@ few_at left [] g = omega arith
 few_at left (q ∷ qs) (f, inl (m, g)) = omega (arith, ap (λ b. length (rows_by b q qs)) (ne_eqb q.tag tag_R (λ e. not_both q.tag m e)))
 few_at left (q ∷ qs) (f, inr (r, some, g)) = omega (arith, few_at (left - 1) qs g, ap (λ b. length (rows_by b q qs)) (eq-eqb q.tag tag_R r))
 
-rows_formed_at : (left : ℕ) (qs : List Pair) → Good left qs → All (λ r. is_module_version r ≡ true) (rows_at qs)
+rows_formed_at : (left : ℕ) (qs : List Pair) → Good left qs → AllByRecursion (λ r. is_module_version r ≡ true) (rows_at qs)
 rows_formed_at left [] g = tt
-rows_formed_at left (q ∷ qs) (f, inl (m, g)) = subst (λ b. All (λ r. is_module_version r ≡ true) (rows_by b q qs)) (sym (ne_eqb q.tag tag_R (λ e. not_both q.tag m e))) tt
-rows_formed_at left (q ∷ qs) (f, inr (r, some, g)) = subst (λ b. All (λ r. is_module_version r ≡ true) (rows_by b q qs)) (sym (eq-eqb q.tag tag_R r)) (f, rows_formed_at (left - 1) qs g)
+rows_formed_at left (q ∷ qs) (f, inl (m, g)) = subst (λ b. AllByRecursion (λ r. is_module_version r ≡ true) (rows_by b q qs)) (sym (ne_eqb q.tag tag_R (λ e. not_both q.tag m e))) tt
+rows_formed_at left (q ∷ qs) (f, inr (r, some, g)) = subst (λ b. AllByRecursion (λ r. is_module_version r ≡ true) (rows_by b q qs)) (sym (eq-eqb q.tag tag_R r)) (f, rows_formed_at (left - 1) qs g)
 
 -- a record in order
 pub record Sound (r : Record) : Type 0 where
   pub formed : is_module_version r.names ≡ true
   pub few : length r.rows ≤ 64
-  pub rows_formed : All (λ x. is_module_version x ≡ true) r.rows
+  pub rows_formed : AllByRecursion (λ x. is_module_version x ≡ true) r.rows
 
 abbrev records_by : Bool → Pair → List Pair → List Record
 records_by b q qs = cond b (record { names = named q; rows = rows_at qs } ∷ records qs) (records qs)
@@ -167,7 +167,7 @@ held_is : (b : Bool) (w v : Bytes) → then_some b w ≡ Some v → w ≡ v
 held_is true w v e = cc
 held_is false w v e = let z : ◌≡◌ {A = ℕ} 0 1 = cc in absurd (omega arith)
 
-good_formed : (left : ℕ) (qs : List Pair) → Good left qs → All (λ q. is_formed q ≡ true) qs
+good_formed : (left : ℕ) (qs : List Pair) → Good left qs → AllByRecursion (λ q. is_formed q ≡ true) qs
 good_formed left [] g = tt
 good_formed left (q ∷ qs) (f, inl (m, g)) = (f, good_formed 64 qs g)
 good_formed left (q ∷ qs) (f, inr (r, some, g)) = (f, good_formed (left - 1) qs g)
@@ -180,7 +180,7 @@ module _ (bs : Bytes) (ok : is_shelf bs ≡ true) where
   pub shelf_lawful : Lawful (shelf_meaning bs)
   shelf_lawful = lawful is_record_of record_answer record_version (records (pairs_in bs)) (record {
     few_rows = λ r h rs e. let s : r.rows ≡ rs = cc in subst (λ xs. length xs ≤ 64) s (sound r h).few;
-    rows_formed = λ r h rs e. let s : r.rows ≡ rs = cc in subst (All (λ x. is_module_version x ≡ true)) s (sound r h).rows_formed;
+    rows_formed = λ r h rs e. let s : r.rows ≡ rs = cc in subst (AllByRecursion (λ x. is_module_version x ≡ true)) s (sound r h).rows_formed;
     depth = λ r h f e. let z : ◌≡◌ {A = ℕ} 0 1 = cc in absurd (omega arith);
     formed = λ p r h v e. subst (λ w. is_version w ≡ true) (held_is (bytes_eq r.names.path p) r.names.version v e) (and_parts (is_path r.names.path) (is_version r.names.version) (sound r h).formed).1;
     holds = λ p v r h e.
@@ -189,5 +189,5 @@ module _ (bs : Bytes) (ok : is_shelf bs ≡ true) where
   })
 
   -- its pairs are well formed
-  pub shelf_formed : All (λ q. is_formed q ≡ true) (pairs_in bs)
+  pub shelf_formed : AllByRecursion (λ q. is_formed q ≡ true) (pairs_in bs)
   shelf_formed = good_formed 0 (pairs_in bs) (shelf_good bs ok)

@@ -1,7 +1,7 @@
 // Reading an accepted shelf, pair by pair and once for each question.
 ghost use Rattle.std.specs.Prelude.{◌≡◌, ◌≤◌, true, map, length};
 ghost use Rattle.std.specs.Option.{option_map};
-ghost use Rattle.std.specs.List.{AllByRecursion as All};
+ghost use Rattle.std.specs.List.{AllByRecursion};
 ghost use Rattle.rules.specs.Names.{is_module_version};
 ghost use Rattle.rules.specs.Slices.{blank, filled};
 ghost use Rattle.versions.specs.Values.{plain_version_bytes};
@@ -67,7 +67,7 @@ fn row_of(pair: Pair<'_>) -> Row
 
 // Copies the rows that stand in front into a slice that has room for them, and says how many they are. Blanks stand behind them.
 pub(crate) fn copy_rows(bytes: &[u8], rows: &mut [Row]) -> usize
-    requires { (length (rows_at (pairs_in bytes.now)) ≤ length rows.old) × (All (λ r. is_module_version r ≡ true) (rows_at (pairs_in bytes.now))) }
+    requires { (length (rows_at (pairs_in bytes.now)) ≤ length rows.old) × (AllByRecursion (λ r. is_module_version r ≡ true) (rows_at (pairs_in bytes.now))) }
     ensures value { result ≡ length (rows_at (pairs_in bytes.now)) }
     ensures items { map row_names rows.new ≡ filled blank (length rows.old) (rows_at (pairs_in bytes.now)) }
 {
@@ -96,7 +96,7 @@ fn version_of(pair: Pair<'_>, path: &[u8]) -> Option<PlainVersion>
 
 // The versions that records hold for a path, unless they are more than 64.
 pub(crate) fn list_versions(bytes: &[u8], path: &[u8]) -> Option<Listing>
-    requires { All (λ q. is_formed q ≡ true) (pairs_in bytes.now) }
+    requires { AllByRecursion (λ q. is_formed q ≡ true) (pairs_in bytes.now) }
     ensures value { option_map listing_bytes result ≡ fitting 64 (version_table (versions_in record_version path.now (records (pairs_in bytes.now)))) }
 {
     let mut listing = Listing::new();

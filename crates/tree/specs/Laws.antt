@@ -3,7 +3,7 @@ use Rattle.std.specs.Prelude.{◌≡◌, ℕ, ◌+◌, ◌-◌, ◌<◌, ◌≤�
 use Rattle.std.proofs.Common.{sym, ap, subst, ◌∙◌, ⊎_elim, arith}
 use Rattle.std.specs.Option.{option_map}
 use Rattle.std.specs.Bool.{then_some}
-use Rattle.std.specs.List.{AllByRecursion as All}
+use Rattle.std.specs.List.{AllByRecursion}
 use Rattle.std.specs.Str.{bytes_eq}
 use Rattle.std.proofs.lemmas.Slice.Eq.{bytes_eq-Decides}
 use Rattle.std.proofs.lemmas.List.{length-append}
@@ -27,7 +27,7 @@ use Rattle.tree.specs.Files.{is_file_of, reading_answer, body_answer, file_answe
 -- ---- the rows of a manifest
 
 abbrev Formed : List ModuleVersion → Type 0
-Formed rs = All (λ r. is_module_version r ≡ true) rs
+Formed rs = AllByRecursion (λ r. is_module_version r ≡ true) rs
 
 -- at most so many, all well formed
 abbrev Sound : ℕ → List ModuleVersion → Type 0

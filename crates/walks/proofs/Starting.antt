@@ -1,6 +1,6 @@
 -- How a walk begins. Assumes nothing.
 use Rattle.std.proofs.Common.{◌≡◌, ℕ, zero, suc, ◌<◌, ◌≤◌, true, not, List, [], ◌∷◌, map, length, take, set, Ok, Err, sym, ap, ◌∙◌, subst, arith}
-use Rattle.std.specs.List.{AllByRecursion as All}
+use Rattle.std.specs.List.{AllByRecursion}
 use Rattle.std.proofs.ByRecursion.{all_kept_by}
 use Rattle.std.proofs.lemmas.Bool.{and_from}
 use Rattle.rules.specs.Orders.{Bytes}
@@ -26,7 +26,7 @@ use Rattle.walks.proofs.Walking.{formed_written}
 formed : (m : ModuleVersion) → is_module_version (names_of m) ≡ true
 formed m = and_from _ _ m.path.ok m.version.ok
 
-pub formed_names : (ms : List ModuleVersion) → All (λ x. is_module_version x ≡ true) (map names_of ms)
+pub formed_names : (ms : List ModuleVersion) → AllByRecursion (λ x. is_module_version x ≡ true) (map names_of ms)
 formed_names [] = tt
 formed_names (m ∷ ms) = (formed m, formed_names ms)
 
@@ -47,7 +47,7 @@ module _ (w : View) (xs : List N.ModuleVersion) (front : List R.Place) (begins :
   same_begun : written 0 (off_main w.main xs) front ≡ begun
   same_begun = ap (written 0 (off_main w.main xs)) begins
 
-  pub starts_on : All (λ x. is_module_version x ≡ true) xs → (n : ℕ) → Tells (if_room (ended done) (written 0 (off_main w.main xs) front)) (Ok n) after
+  pub starts_on : AllByRecursion (λ x. is_module_version x ≡ true) xs → (n : ℕ) → Tells (if_room (ended done) (written 0 (off_main w.main xs) front)) (Ok n) after
       → (1 ≤ n) × (n ≤ 256) × Formed (map place_of (take n after)) × (walk_from w xs ≡ walk (remaining w) 255 1 (map place_of (take n after)))
   unfolding walk_from
   starts_on all n t =

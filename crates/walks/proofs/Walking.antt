@@ -1,6 +1,6 @@
 -- The turns of a walk, as the code takes them. Assumes nothing.
 use Rattle.std.proofs.Common.{◌≡◌, ℕ, suc, ◌+◌, ◌-◌, ◌<◌, ◌≤◌, true, not, List, map, length, get_or, take, Some, Ok, Err, sym, refl, ap, ◌∙◌, subst, ⊎_elim, arith}
-use Rattle.std.specs.List.{slice_get, AllByRecursion as All}
+use Rattle.std.specs.List.{slice_get, AllByRecursion}
 use Rattle.std.proofs.lemmas.List.{get_or-map, get_or-take, length-take-le, take_all}
 use Rattle.std.proofs.lemmas.Option.{slice_get-get_or}
 use Rattle.std.proofs.ByRecursion.{all_kept_by}
@@ -24,7 +24,7 @@ use Rattle.walks.specs.Views.{Formed, asked_at}
 use Rattle.walks.proofs.Telling.{front_long, ok_told, err_told, tells_by, tells_done}
 
 -- well formed rows keep a sheet well formed
-pub formed_written : (from : ℕ) (xs : List ModuleVersion) (sheet : List R.Place) → All (λ x. is_module_version x ≡ true) xs → Formed sheet → Formed (written from xs sheet)
+pub formed_written : (from : ℕ) (xs : List ModuleVersion) (sheet : List R.Place) → AllByRecursion (λ x. is_module_version x ≡ true) xs → Formed sheet → Formed (written from xs sheet)
 formed_written from xs sheet all f =
     written_keeps Formed from xs
     (λ s x h new g i r l e. ⊎_elim (λ k. g i r l k) (λ k. subst (λ (p : R.Place). is_module_version p.row ≡ true) k.1 (all_member (λ y. is_module_version y ≡ true) xs all x h)) (nth_pushed s (placed x from) i r e))
@@ -36,7 +36,7 @@ read_at ps n i d l h = get_or-map place_of (take n ps) i d blank_place (omega (a
 
 -- what is answered is well formed
 abbrev pub AsksFormed : (ModuleVersion → Answer (List ModuleVersion)) → Type 0
-AsksFormed ask = (x : ModuleVersion) (ys : List ModuleVersion) → ask x ≡ found ys → All (λ y. is_module_version y ≡ true) ys
+AsksFormed ask = (x : ModuleVersion) (ys : List ModuleVersion) → ask x ≡ found ys → AllByRecursion (λ y. is_module_version y ≡ true) ys
 
 -- whatever is asked
 module _ (ask : ModuleVersion → Answer (List ModuleVersion)) (i : ℕ) (sheet : List R.Place) (in_sheet : i < length sheet) where
@@ -101,11 +101,11 @@ module _ (w : View) where
   pub required_formed : Lawful w.layer → AsksFormed (remaining w)
   required_formed law x ys e = go (w.layer.requirements x) refl e
     where
-      go : (a : Answer (List ModuleVersion)) → w.layer.requirements x ≡ a → narrowed (off_main w.main) a ≡ found ys → All (λ y. is_module_version y ≡ true) ys
+      go : (a : Answer (List ModuleVersion)) → w.layer.requirements x ≡ a → narrowed (off_main w.main) a ≡ found ys → AllByRecursion (λ y. is_module_version y ≡ true) ys
       go (fault f) p q = let z : ◌≡◌ {A = ℕ} 0 1 = cc in absurd (omega arith)
       go (found zs) p q =
           let k : off_main w.main zs ≡ ys = cc in
-          subst (All (λ y. is_module_version y ≡ true)) k (all_kept_by (λ y. not (same_path y w.main)) (λ y. is_module_version y ≡ true) zs (law.rows_formed x zs p))
+          subst (AllByRecursion (λ y. is_module_version y ≡ true)) k (all_kept_by (λ y. not (same_path y w.main)) (λ y. is_module_version y ≡ true) zs (law.rows_formed x zs p))
 
 -- every place is questioned
 pub goes_out : (ask : ModuleVersion → Answer (List ModuleVersion)) (i n : ℕ) (after : List Place) → n ≤ i → n ≤ 256 → n ≤ length after

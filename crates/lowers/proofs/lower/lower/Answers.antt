@@ -1,6 +1,6 @@
 -- The list is given, or refused. Assumes nothing.
 use Rattle.std.proofs.Common.{◌≡◌, ℕ, ◌+◌, ◌-◌, ◌≤◌, true, cond, List, map, length, take, drop, Some, None, sym, ap, ◌∙◌, subst, arith}
-use Rattle.std.specs.List.{AllByRecursion as All}
+use Rattle.std.specs.List.{AllByRecursion}
 use Rattle.std.proofs.lemmas.List.{length-map}
 use Rattle.rules.specs.Causes.{nothing_to_change}
 use Rattle.rules.specs.Paths.{is_path}
@@ -60,10 +60,10 @@ lower_rows-requires g c =
     let long : 256 ≤ length c.list.new.sheet = omega (arith, long_sheet n (given w start n c.in-Ok.counts.places rows v).0, c.list.auto.sheet) in
     let short : length (take (rows - 1) (drop 1 list)) ≤ 255 = omega (arith, few, ap length is, length-map (take (rows - 1) (drop 1 list)) row_names) in record {
       in_bounds = (long, short);
-      all = subst (λ (xs : List ModuleVersion). All (λ x. is_path x.path ≡ true) xs) (sym is) (behind_formed w start law (formed_names c.args.start.now));
+      all = subst (λ (xs : List ModuleVersion). AllByRecursion (λ x. is_path x.path ≡ true) xs) (sym is) (behind_formed w start law (formed_names c.args.start.now));
       ascending_rows = (
         subst (λ (xs : List ModuleVersion). AscendingRows xs) (sym is) (behind_up w start),
-        subst (λ (xs : List ModuleVersion). All (λ x. x.path ≡ main → ⊥) xs) (sym is) (behind_off w start),
+        subst (λ (xs : List ModuleVersion). AllByRecursion (λ x. x.path ≡ main → ⊥) xs) (sym is) (behind_off w start),
       );
     }
 

@@ -1,6 +1,6 @@
 -- Nothing is to be lowered, or it is lowered under the ceilings of the rows. Assumes nothing.
 use Rattle.std.proofs.Common.{◌≡◌, ℕ, ◌+◌, ◌-◌, ◌≤◌, Bool, true, cond, List, map, length, take, Some, None, sym, ap, ◌∙◌, subst, arith}
-use Rattle.std.specs.List.{AllByRecursion as All}
+use Rattle.std.specs.List.{AllByRecursion}
 use Rattle.rules.specs.Paths.{is_path}
 use Rattle.rules.specs.Names.{ModuleVersion}
 use Rattle.rules.specs.Causes.{nothing_to_change}
@@ -31,10 +31,10 @@ lower_ceilings-requires g c =
     let e = sym (lent_ceilings c.write_ceilings.new.ceilings (map (ceiling_of p v) xs) (length c.args.rows.now) c.write_ceilings.ensures.after) in
     let long : 256 ≤ length c.args.sheet.now = omega arith in record {
       in_bounds = long;
-      all = subst (λ (cs : List ModuleVersion). All (λ x. is_path x.path ≡ true) cs) e (ceilings_formed main p v xs c.requires.all c.requires.ascending_rows.0 c.requires.ascending_rows.1);
+      all = subst (λ (cs : List ModuleVersion). AllByRecursion (λ x. is_path x.path ≡ true) cs) e (ceilings_formed main p v xs c.requires.all c.requires.ascending_rows.0 c.requires.ascending_rows.1);
       ascending_rows = (
         subst (λ (cs : List ModuleVersion). AscendingRows cs) e (ceilings_up main p v xs c.requires.all c.requires.ascending_rows.0 c.requires.ascending_rows.1),
-        subst (λ (cs : List ModuleVersion). All (λ x. x.path ≡ main → ⊥) cs) e (ceilings_off main p v xs c.requires.all c.requires.ascending_rows.0 c.requires.ascending_rows.1),
+        subst (λ (cs : List ModuleVersion). AllByRecursion (λ x. x.path ≡ main → ⊥) cs) e (ceilings_off main p v xs c.requires.all c.requires.ascending_rows.0 c.requires.ascending_rows.1),
       );
     }
 

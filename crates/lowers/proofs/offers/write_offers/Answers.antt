@@ -1,6 +1,6 @@
 -- One path more, a path whose offer stops it, and the end. Assumes nothing.
 use Rattle.std.proofs.Common.{◌≡◌, ℕ, zero, suc, ◌+◌, ◌<◌, ◌≤◌, true, List, [], ◌∷◌, map, length, get_or, take, drop, Ok, Err, sym, refl, ap, ◌∙◌, subst, arith}
-use Rattle.std.specs.List.{AllByRecursion as All}
+use Rattle.std.specs.List.{AllByRecursion}
 use Rattle.std.proofs.lemmas.List.{at_drop_more, at_drop_all}
 use Rattle.rules.specs.Paths.{is_path}
 use Rattle.rules.specs.Names.{ModuleVersion}
@@ -16,7 +16,7 @@ use Rattle.walks.proofs.Telling.{front_long, tells_by, tells_done}
 use Rattle.lowers.proofs.Offering.{offer_ok, offer_err}
 use Rattle.lowers.proofs.offers.write_offers.Goals as goal
 
-all_at : (P : ModuleVersion → Type 0) (rows : List Row) (i : ℕ) (x : Row) → All P (map row_names rows) → i < length rows → x ≡ get_or rows i x → P (row_names x)
+all_at : (P : ModuleVersion → Type 0) (rows : List Row) (i : ℕ) (x : Row) → AllByRecursion P (map row_names rows) → i < length rows → x ≡ get_or rows i x → P (row_names x)
 all_at P [] i x a h e = absurd (omega arith)
 all_at P (r ∷ rs) zero x a h e = subst (λ (y : Row). P (row_names y)) (sym e) a.0
 all_at P (r ∷ rs) (suc i) x a h e = all_at P rs i x a.1 (omega arith) e

@@ -1,6 +1,6 @@
 -- One row more is copied, and in the end the rest is blank. Assumes nothing.
 use Rattle.std.proofs.Common.{◌≡◌, true, ◌∷◌, length, sym, ap, ◌∙◌, subst, arith}
-use Rattle.std.specs.List.{AllByRecursion as All}
+use Rattle.std.specs.List.{AllByRecursion}
 use Rattle.std.proofs.lemmas.List.{length-set}
 use Rattle.rules.specs.Names.{ModuleVersion, is_module_version}
 use Rattle.modules.specs.Rows.{row_names}
@@ -13,8 +13,8 @@ use Rattle.shelf.proofs.reading.copy_rows.Goals as goal
 pub row_of-requires : goal.row_of-requires
 row_of-requires c =
     let p = pair_cut_of c.in-Some.pair in
-    let formed : All (λ r. is_module_version r ≡ true) (named p.pair ∷ rows_at (pairs_in p.after))
-    = subst (All (λ r. is_module_version r ≡ true)) (rows_more c.loop-pair.rest.now p c.in-Some.ensures.value) c.loop-pair.invariant.2 in
+    let formed : AllByRecursion (λ r. is_module_version r ≡ true) (named p.pair ∷ rows_at (pairs_in p.after))
+    = subst (AllByRecursion (λ r. is_module_version r ≡ true)) (rows_more c.loop-pair.rest.now p c.in-Some.ensures.value) c.loop-pair.invariant.2 in
     formed.0
 
 pub bounds-rows-count : goal.bounds-rows-count
@@ -34,7 +34,7 @@ loop-pair-preserved c =
     let more = rows_more c.loop-pair.rest.now p c.in-Some.ensures.value in
     let room = still_room row_names n out (rows_at (pairs_in c.args.bytes.now)) (rows_at (pairs_in c.loop-pair.rest.now)) c.loop-pair.invariant.0 c.loop-pair.invariant.1
     (named p.pair) (rows_at (pairs_in p.after)) more (omega (arith, c.requires.0, c.loop-pair.auto.rows)) in
-    let formed : All (λ r. is_module_version r ≡ true) (named p.pair ∷ rows_at (pairs_in p.after)) = subst (All (λ r. is_module_version r ≡ true)) more c.loop-pair.invariant.2 in (
+    let formed : AllByRecursion (λ r. is_module_version r ≡ true) (named p.pair ∷ rows_at (pairs_in p.after)) = subst (AllByRecursion (λ r. is_module_version r ≡ true)) more c.loop-pair.invariant.2 in (
       omega (arith, room, length-set out n c.row_of.result),
       one_copied row_names n out (rows_at (pairs_in c.args.bytes.now)) (rows_at (pairs_in c.loop-pair.rest.now)) c.loop-pair.invariant.0 c.loop-pair.invariant.1
           c.row_of.result (rows_at (pairs_in p.after)) (more ∙ ap (λ (x : ModuleVersion). x ∷ rows_at (pairs_in p.after)) (sym c.row_of.ensures.value)) room,

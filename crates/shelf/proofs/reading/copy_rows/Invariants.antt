@@ -1,6 +1,6 @@
 -- The rows that are copied, and those that are left, are all. Assumes nothing.
 use Rattle.std.proofs.Common.{◌≡◌, ◌≤◌, true, ◌++◌, map, length, take}
-use Rattle.std.specs.List.{AllByRecursion as All}
+use Rattle.std.specs.List.{AllByRecursion}
 use Rattle.rules.specs.Names.{is_module_version}
 use Rattle.modules.specs.Rows.{row_names}
 use Rattle.fields.specs.Pairs.{pairs_in}
@@ -11,7 +11,7 @@ abbrev pub invariant-loop-pair : goal.invariant-loop-pair
 invariant-loop-pair l =
     (l.count ≤ length l.rows)
     × (take l.count (map row_names l.rows) ++ rows_at (pairs_in l.rest) ≡ rows_at (pairs_in l.bytes))
-    × All (λ r. is_module_version r ≡ true) (rows_at (pairs_in l.rest))
+    × AllByRecursion (λ r. is_module_version r ≡ true) (rows_at (pairs_in l.rest))
 
 abbrev pub decreases-loop-pair : goal.decreases-loop-pair
 decreases-loop-pair l = length l.rest

@@ -1,6 +1,6 @@
 -- One pair more: its version is entered, or there is no room; and the end. Assumes nothing.
 use Rattle.std.proofs.Common.{◌≡◌, true, ◌∷◌, ap, ◌∙◌, subst, arith}
-use Rattle.std.specs.List.{AllByRecursion as All}
+use Rattle.std.specs.List.{AllByRecursion}
 use Rattle.std.specs.Option.{option_map}
 use Rattle.rules.specs.Rows.{own}
 use Rattle.rules.specs.Tables.{keep, entered_all}
@@ -20,8 +20,8 @@ use Rattle.shelf.proofs.reading.list_versions.Goals as goal
 pub version_of-requires : goal.version_of-requires
 version_of-requires c =
     let p = pair_cut_of c.in-Some.pair in
-    let formed : All (λ q. is_formed q ≡ true) (p.pair ∷ pairs_in p.after)
-    = subst (All (λ (q : Pair). is_formed q ≡ true)) (pairs_some c.loop-pair.rest.now p c.in-Some.ensures.value) c.loop-pair.invariant.1 in
+    let formed : AllByRecursion (λ q. is_formed q ≡ true) (p.pair ∷ pairs_in p.after)
+    = subst (AllByRecursion (λ (q : Pair). is_formed q ≡ true)) (pairs_some c.loop-pair.rest.now p c.in-Some.ensures.value) c.loop-pair.invariant.1 in
     formed.0
 
 pub loop-pair-smaller : goal.loop-pair-smaller
@@ -39,8 +39,8 @@ returns-then-not-list_held c =
 pub loop-pair-preserved : goal.loop-pair-preserved
 loop-pair-preserved c =
     let p = pair_cut_of c.in-Some.pair in
-    let formed : All (λ q. is_formed q ≡ true) (p.pair ∷ pairs_in p.after)
-    = subst (All (λ (q : Pair). is_formed q ≡ true)) (pairs_some c.loop-pair.rest.now p c.in-Some.ensures.value) c.loop-pair.invariant.1 in (
+    let formed : AllByRecursion (λ q. is_formed q ≡ true) (p.pair ∷ pairs_in p.after)
+    = subst (AllByRecursion (λ (q : Pair). is_formed q ≡ true)) (pairs_some c.loop-pair.rest.now p c.in-Some.ensures.value) c.loop-pair.invariant.1 in (
       one_listed _ (listing_bytes c.loop-pair.listing) _ _ (option_map plain_version_bytes c.version_of.result) c.loop-pair.invariant.0
           (versions_left c.args.path.now c.loop-pair.rest.now p c.in-Some.ensures.value (option_map plain_version_bytes c.version_of.result) c.version_of.ensures.value)
           (listing_bytes c.list_held.new.listing) c.if-not-list_held.ensures.after,

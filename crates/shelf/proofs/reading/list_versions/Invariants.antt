@@ -1,6 +1,6 @@
 -- What is left, entered into the listing so far, is the table of all. Assumes nothing.
 use Rattle.std.proofs.Common.{◌≡◌, true, length}
-use Rattle.std.specs.List.{AllByRecursion as All}
+use Rattle.std.specs.List.{AllByRecursion}
 use Rattle.rules.specs.Rows.{own}
 use Rattle.rules.specs.Tables.{keep, entered_all}
 use Rattle.rules.specs.Versions.{version_order}
@@ -15,7 +15,7 @@ abbrev pub invariant-loop-pair : goal.invariant-loop-pair
 invariant-loop-pair l =
     (version_table (versions_in record_version l.path (records (pairs_in l.bytes)))
     ≡ entered_all own version_order keep (listing_bytes l.listing) (versions_in record_version l.path (records (pairs_in l.rest))))
-    × All (λ q. is_formed q ≡ true) (pairs_in l.rest)
+    × AllByRecursion (λ q. is_formed q ≡ true) (pairs_in l.rest)
 
 abbrev pub decreases-loop-pair : goal.decreases-loop-pair
 decreases-loop-pair l = length l.rest
