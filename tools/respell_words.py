@@ -1,11 +1,13 @@
 #!/usr/bin/env python3
 """Calls the library's `AllByRecursion` by its name, where the port's script imports it as `All`: the library has another word of that name, and the
-gate refuses the alias. Run once, behind respell_made.py."""
+gate refuses the alias. And gives a type the spelling of types where that script gave it another. Run once, behind respell_made.py."""
 import sys
 
 from respell import TOKEN, files, parts
 
 ALIAS = "AllByRecursion as All"
+
+TYPES = {"Goes_on": "GoesOn"}
 
 
 def main():
@@ -13,13 +15,15 @@ def main():
     changed = 0
     for p in files(root, (".antt", ".rt")):
         text = open(p, encoding="utf-8").read()
-        if ALIAS not in text:
-            continue
+        words = dict(TYPES)
+        if ALIAS in text:
+            words["All"] = "AllByRecursion"
         out = []
         for is_code, x in parts(text.replace(ALIAS, "AllByRecursion"), p.endswith(".rt")):
-            out.append(TOKEN.sub(lambda m: "AllByRecursion" if m.group(0) == "All" else m.group(0), x) if is_code else x)
-        open(p, "w", encoding="utf-8").write("".join(out))
-        changed += 1
+            out.append(TOKEN.sub(lambda m: words.get(m.group(0), m.group(0)), x) if is_code else x)
+        if "".join(out) != text:
+            open(p, "w", encoding="utf-8").write("".join(out))
+            changed += 1
     print(changed, "files")
 
 

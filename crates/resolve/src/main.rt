@@ -1,5 +1,7 @@
 // The program: thin, over the library. With no argument it shows the library at work on embedded examples. A refusal is a line that a script can
 // read, on standard error; whatever else goes wrong is a message there. Both end with status 1.
+#![tactic(auto)]
+
 mod ask;
 mod check;
 mod compare;

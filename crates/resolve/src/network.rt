@@ -1,4 +1,4 @@
-// The program without arguments: the base network, embedded, taken through load, list, lower, exclude and a refusal, step by step and in words.
+// `resolve tour`: the base network, embedded, taken through load, list, lower, exclude and a refusal, step by step and in words.
 use crate::ask::module_version_of;
 use crate::print::{Done, print_refusal, refusal_line, text_of};
 use anyhow::anyhow;

@@ -11,7 +11,7 @@ use Rattle.rules.proofs.Changes.{changes_right}
 use Rattle.rules.proofs.Tidy.{tidy_right}
 use Rattle.causes.specs.declared.refusal.Refusal.{Refusal}
 use Rattle.project.specs.States.{changed}
-use Rattle.runs.specs.Law.{leaves, LawAt, Goes_on}
+use Rattle.runs.specs.Law.{leaves, LawAt, GoesOn}
 
 -- one call more
 pub after_more : (m : Meaning) (s : State) (calls : List Call) (c : Call) → (does m (after m s calls) c).state ≡ after m s (calls ++ c ∷ [])
@@ -24,7 +24,7 @@ law_at m law calls b = record { right = runs_right m law calls; changes = change
 -- the law, where the reply, the state and the slices are as the rules say
 pub goes_on : (m : Meaning) → Lawful m → (s : State) (c : Call) (reply : Reply) (t : State) (before slices : Slices)
     → reply ≡ (does m s c).reply → t ≡ (does m s c).state → slices ≡ leaves m s c before
-    → (calls : List Call) → AllByRecursion InBounds calls → s ≡ after m fresh calls → Goes_on m calls c reply t before slices
+    → (calls : List Call) → AllByRecursion InBounds calls → s ≡ after m fresh calls → GoesOn m calls c reply t before slices
 goes_on m law s c reply t before slices p q w calls b e = record {
   replied = p ∙ ap (λ (u : State). (does m u c).reply) e;
   changed = q ∙ ap (λ (u : State). (does m u c).state) e ∙ after_more m fresh calls c;

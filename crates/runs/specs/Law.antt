@@ -25,7 +25,7 @@ pub record LawAt (m : Meaning) (calls : List Call) : Type 0 where
 
 -- One call more, c, on a project that is fresh but for some calls: its reply, the state and the slices after it are what the rules make of those calls
 -- and of this one, and the law holds there.
-pub record Goes_on (m : Meaning) (calls : List Call) (c : Call) (reply : Reply) (state : State) (before slices : Slices) : Type 0 where
+pub record GoesOn (m : Meaning) (calls : List Call) (c : Call) (reply : Reply) (state : State) (before slices : Slices) : Type 0 where
   pub replied : reply ≡ (outcome m calls c).reply
   pub changed : state ≡ after m fresh (calls ++ c ∷ [])
   pub written : slices ≡ leaves m (after m fresh calls) c before

@@ -8,7 +8,7 @@ ghost use Rattle.project.specs.Projects.{state_of, pile_of, counted_as};
 ghost use Rattle.project.specs.States.{changed as changed_as};
 ghost use Rattle.walks.specs.Listed.{lent, slices_of, reply_of as counts_told};
 ghost use Rattle.runs.specs.Told.{call_of, reply_told};
-ghost use Rattle.runs.specs.Law.{leaves, Goes_on};
+ghost use Rattle.runs.specs.Law.{leaves, GoesOn};
 
 use crate::calls::{Call, Reply};
 use causes::refusal::Refusal;
@@ -50,7 +50,7 @@ pub fn call<S: Source>(
     ensures after { state_of project.new ≡ (does (pile_of S.Source.meaning project.old) (state_of project.old) (call_of texts.now (lent sheet.old list.old) call.now)).state }
     ensures items { slices_of sheet.new list.new ≡ leaves (pile_of S.Source.meaning project.old) (state_of project.old) (call_of texts.now (lent sheet.old list.old) call.now) (slices_of sheet.old list.old) }
     ensures same { pile_of S.Source.meaning project.new ≡ pile_of S.Source.meaning project.old }
-    ensures law { (calls : List Asked) → AllByRecursion InBounds calls → state_of project.old ≡ after_calls (pile_of S.Source.meaning project.old) fresh_state calls → Goes_on (pile_of S.Source.meaning project.old) calls (call_of texts.now (lent sheet.old list.old) call.now) (reply_told result) (state_of project.new) (slices_of sheet.old list.old) (slices_of sheet.new list.new) }
+    ensures law { (calls : List Asked) → AllByRecursion InBounds calls → state_of project.old ≡ after_calls (pile_of S.Source.meaning project.old) fresh_state calls → GoesOn (pile_of S.Source.meaning project.old) calls (call_of texts.now (lent sheet.old list.old) call.now) (reply_told result) (state_of project.new) (slices_of sheet.old list.old) (slices_of sheet.new list.new) }
 {
     match call {
         Call::Load(part) => reply_of_change(project.load(part.of(texts))),

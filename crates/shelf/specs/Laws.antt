@@ -53,8 +53,8 @@ row_was left b v e = go (left == 0) refl e
         (omega arith, p.0, p.1)
 
 -- a row follows
-abbrev Goes_on : ℕ → ℕ → Bytes → Expected → Type 0
-Goes_on left t b v = (t ≡ tag_R) × (0 < left) × (is_path b ≡ true) × (v ≡ RowVersion (left - 1))
+abbrev GoesOn : ℕ → ℕ → Bytes → Expected → Type 0
+GoesOn left t b v = (t ≡ tag_R) × (0 < left) × (is_path b ≡ true) × (v ≡ RowVersion (left - 1))
 
 at_module : (t : ℕ) (b : Bytes) (v : Expected) → follow Module t b ≡ Ok v → (t ≡ tag_M) × (is_path b ≡ true) × (v ≡ Version)
 at_module t b v e =
@@ -62,11 +62,11 @@ at_module t b v e =
     let q = path_was b Version v p.1 in
     (eqb-true t tag_M p.0, q.0, q.1)
 
-at_row : (left t : ℕ) (b : Bytes) (v : Expected) → follow (Row left) t b ≡ Ok v → ((t ≡ tag_M) × (is_path b ≡ true) × (v ≡ Version)) ⊎ Goes_on left t b v
+at_row : (left t : ℕ) (b : Bytes) (v : Expected) → follow (Row left) t b ≡ Ok v → ((t ≡ tag_M) × (is_path b ≡ true) × (v ≡ Version)) ⊎ GoesOn left t b v
 at_row left t b v e = go (t == tag_M) refl e
   where
     go : (z : Bool) → (t == tag_M) ≡ z → cond z (path_then b Version) (cond (t == tag_R) (row_then left b) (Err damaged_buffer)) ≡ Ok v
-        → ((t ≡ tag_M) × (is_path b ≡ true) × (v ≡ Version)) ⊎ Goes_on left t b v
+        → ((t ≡ tag_M) × (is_path b ≡ true) × (v ≡ Version)) ⊎ GoesOn left t b v
     go true h f = let q = path_was b Version v f in inl (eqb-true t tag_M h, q.0, q.1)
     go false h f =
         let p = passed (t == tag_R) (row_then left b) damaged_buffer v f in
@@ -99,7 +99,7 @@ good_at left place (whole t a ∷ whole u b ∷ ps) h =
     (λ (m : (t ≡ tag_M) × (is_path a ≡ true) × (v ≡ Version)).
     let n = at_version u b w (ap (λ x. follow x u b) (sym m.2) ∙ f) in
     (and_from (is_path a) (is_version b) m.1 n.0, inl (m.0, good_at 64 (place + 3 + length a + 3 + length b) ps (subst (λ x. Fine x (place + 3 + length a + 3 + length b) ps) n.1 j))))
-    (λ (m : Goes_on left t a v).
+    (λ (m : GoesOn left t a v).
     let n = at_row_version (left - 1) u b w (ap (λ x. follow x u b) (sym m.3) ∙ f) in
     (and_from (is_path a) (is_version b) m.2 n.0, inr (m.0, m.1, good_at (left - 1) (place + 3 + length a + 3 + length b) ps (subst (λ x. Fine x (place + 3 + length a + 3 + length b) ps) n.1 j))))
     (at_row left t a v e)

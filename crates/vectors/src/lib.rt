@@ -1,4 +1,6 @@
 // Examples that are run: what the library should do at the edges of its rules. The crate has no code of its own.
+#![tactic(auto)]
+
 #[cfg(test)]
 mod asks;
 #[cfg(test)]

@@ -50,17 +50,17 @@ module _ (ask : ModuleVersion → Answer (List ModuleVersion)) (i : ℕ) (sheet 
   asked = ap (questioned ask (ended done) i sheet) reads
 
   -- what holds after a turn that goes on
-  abbrev Goes_on : ℕ → List R.Place → Type 0
-  Goes_on n next = (n ≤ 256) × (length sheet ≤ n) × Formed next × (walk ask (256 - (i + 1)) (i + 1) next ≡ walk ask (256 - i) i sheet)
+  abbrev GoesOn : ℕ → List R.Place → Type 0
+  GoesOn n next = (n ≤ 256) × (length sheet ≤ n) × Formed next × (walk ask (256 - (i + 1)) (i + 1) next ≡ walk ask (256 - i) i sheet)
 
   module _ (room : i < 256) (after : List Place) where
     one_less : 256 - i ≡ suc (255 - i)
     one_less = omega arith
 
-    pub goes_on : AsksFormed ask → Formed sheet → (n : ℕ) → Tells (questioned ask (ended done) i sheet (slice_get sheet i)) (Ok n) after → Goes_on n (map place_of (take n after))
+    pub goes_on : AsksFormed ask → Formed sheet → (n : ℕ) → Tells (questioned ask (ended done) i sheet (slice_get sheet i)) (Ok n) after → GoesOn n (map place_of (take n after))
     goes_on formed f n t = go (ask there.row) refl (subst (λ u. Tells u (Ok n) after) asked t)
       where
-        go : (a : Answer (List ModuleVersion)) → ask there.row ≡ a → Tells (answered (ended done) i sheet a) (Ok n) after → Goes_on n (map place_of (take n after))
+        go : (a : Answer (List ModuleVersion)) → ask there.row ≡ a → Tells (answered (ended done) i sheet a) (Ok n) after → GoesOn n (map place_of (take n after))
         go (fault g) e k = let q = k.refused in let z : ◌≡◌ {A = ℕ} 0 1 = cc in absurd (omega arith)
         go (found ys) e k =
             let (l, c, q) = ok_told (written i ys sheet) after n k in
