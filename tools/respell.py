@@ -115,7 +115,6 @@ def main():
     for b in both:
         print("kept, since the toolchain has it or makes it:", b)
     left = sorted(t for t in every if "-" in t.strip("-") and t not in own and WORD.match(t))
-    open("/tmp/respell-left.txt", "w").write("\n".join(left))
     print(len(own), "names respelled in", changed, "files;", len(left), "other names with a dash, which are not ours")
 
 

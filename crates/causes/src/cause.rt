@@ -1,6 +1,6 @@
 // The fourteen causes. A script reads the number, a person the words; both are fixed.
 ghost use Rattle.std.specs.Prelude.{◌≡◌, Some};
-ghost use Rattle.rules.specs.Causes.{number as number_of_lem};
+ghost use Rattle.rules.specs.Causes.{number as number_of};
 ghost use Rattle.causes.specs.Told.{cause_of};
 ghost use Rattle.causes.specs.Wording.{wording};
 
@@ -32,7 +32,7 @@ pub enum Cause {
 impl Cause {
     // The number that the cause is told by, 1 to 14.
     pub fn number(self) -> u8
-        ensures value { result ≡ number_of_lem (cause_of self) }
+        ensures value { result ≡ number_of (cause_of self) }
     {
         match self {
             Cause::TooLong => 1,

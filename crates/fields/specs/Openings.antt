@@ -14,7 +14,7 @@ Opening = Result (Unit {0}) Refusal
 abbrev pub refused_at : ℕ → Cause → Opening
 refused_at place c = Err (of_place c place)
 
--- W says which fields may come next; `follow` what may come behind a field with a tag and bytes, or why it may not stand there; `may-end`
+-- W says which fields may come next; `follow` what may come behind a field with a tag and bytes, or why it may not stand there; `may_end`
 -- whether the buffer may end there.
 module _ {W : Type 0} (follow : W → ℕ → Bytes → Result W Cause) (may_end : W → Bool) where
   abbrev pub opened_on : (W → Opening) → ℕ → Result W Cause → Opening

@@ -14,7 +14,7 @@ use Rattle.layers.specs.declared.exclude.Exclude.{Exclude}
 abbrev pub exclude_meaning : {S : Type 0} → (S → Meaning) → Exclude S → Meaning
 exclude_meaning below e = excluding (exclusion_names e.exclusions) (below e.below)
 
--- what a layer has inside: its table and what is below it means, and then what is inside of that
+-- what a layer has inside: its table and what the source below it means, and then what is inside of that
 abbrev pub exclude_inside : {S : Type 0} → (S → Meaning) → (S → List Inside) → Exclude S → List Inside
 exclude_inside below inside e = record { exclusions = exclusion_names e.exclusions; below = below e.below } ∷ inside e.below
 

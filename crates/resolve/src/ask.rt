@@ -1,8 +1,8 @@
 // `resolve show` and `resolve versions`: a question to a pile, and its answer or its refusal.
 use crate::compare::no_version;
+use crate::failure::Failure;
 use crate::piles::{Task, with_pile};
 use crate::print::{Done, print_list, print_refusal, text_of};
-use anyhow::anyhow;
 use commands::answers::refusal_of;
 use modules::rows::{ModuleVersion, Row};
 use names::path::Path;
@@ -10,12 +10,12 @@ use source::questions::ListingSource;
 use versions::version::{PlainVersion, Version};
 
 // The path that a word is.
-pub fn path_of(rt: &HostRuntime, word: &str) -> anyhow::Result<Path> {
+pub fn path_of(rt: &HostRuntime, word: &str) -> Result<Path, Failure> {
     match Path::check(word.as_bytes()) {
         Some(path) => Ok(path),
         None => {
             let message = format!(in rt.alloc(); "no path: {word}")?;
-            Err(anyhow!(message))
+            Err(Failure::Message(message))
         }
     }
 }
@@ -25,7 +25,7 @@ pub fn module_version_of(
     rt: &HostRuntime,
     path: &str,
     version: &str,
-) -> anyhow::Result<ModuleVersion> {
+) -> Result<ModuleVersion, Failure> {
     let path = path_of(rt, path)?;
     match Version::check(version.as_bytes()) {
         Some(version) => Ok(ModuleVersion { path, version }),
@@ -39,14 +39,14 @@ pub fn show(
     path: &str,
     version: &str,
     sources: &[String],
-) -> anyhow::Result<Done> {
+) -> Result<Done, Failure> {
     let of = module_version_of(rt, path, version)?;
     let mut task = Requirements { of };
     with_pile(rt, sources, &mut task)
 }
 
 // The versions of a path.
-pub fn versions(rt: &HostRuntime, path: &str, sources: &[String]) -> anyhow::Result<Done> {
+pub fn versions(rt: &HostRuntime, path: &str, sources: &[String]) -> Result<Done, Failure> {
     let of = path_of(rt, path)?;
     let mut task = Listing { of };
     with_pile(rt, sources, &mut task)
@@ -59,7 +59,7 @@ pub struct Requirements {
 }
 
 impl Task for Requirements {
-    fn run<S: ListingSource>(&mut self, rt: &HostRuntime, pile: &mut S) -> anyhow::Result<Done> {
+    fn run<S: ListingSource>(&mut self, rt: &HostRuntime, pile: &mut S) -> Result<Done, Failure> {
         let mut rows = [Row::blank(); 64];
         match pile.requirements(&self.of, &mut rows) {
             Ok(found) => {
@@ -78,7 +78,7 @@ pub struct Listing {
 }
 
 impl Task for Listing {
-    fn run<S: ListingSource>(&mut self, rt: &HostRuntime, pile: &mut S) -> anyhow::Result<Done> {
+    fn run<S: ListingSource>(&mut self, rt: &HostRuntime, pile: &mut S) -> Result<Done, Failure> {
         let mut versions = [PlainVersion::blank(); 64];
         match pile.versions(&self.of, &mut versions) {
             Ok(found) => print_versions(rt, &versions, found.count),
@@ -91,7 +91,7 @@ fn print_versions(
     rt: &HostRuntime,
     versions: &[PlainVersion],
     count: usize,
-) -> anyhow::Result<Done> {
+) -> Result<Done, Failure> {
     for version in versions.iter().take(count) {
         let text = text_of(rt, version.as_bytes())?;
         println!(rt; "{text}")?;

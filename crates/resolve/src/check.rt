@@ -1,4 +1,5 @@
 // `resolve check MANIFEST`: what a project's manifest says, row by row in the order read, or why and at which line it is refused.
+use crate::failure::Failure;
 use crate::print::{Done, about, print_refusal, print_row, text_of};
 use manifest::kinds::{Manifest, Owner};
 use manifest::reading::read;
@@ -6,14 +7,14 @@ use modules::rows::Row;
 use std::fs;
 
 // The bytes of a file.
-pub fn file_bytes(rt: &HostRuntime, file: &str) -> anyhow::Result<Vec<u8>> {
+pub fn file_bytes(rt: &HostRuntime, file: &str) -> Result<Vec<u8>, Failure> {
     match fs::read(rt, file) {
         Ok(bytes) => Ok(bytes),
         Err(e) => Err(about(rt, file, e)?),
     }
 }
 
-pub fn check(rt: &HostRuntime, file: &str) -> anyhow::Result<Done> {
+pub fn check(rt: &HostRuntime, file: &str) -> Result<Done, Failure> {
     let text = file_bytes(rt, file)?;
     let mut required = [Row::blank(); 256];
     let mut excluded = [Row::blank(); 32];
@@ -33,7 +34,7 @@ fn print_manifest(
     manifest: &Manifest,
     required: &[Row],
     excluded: &[Row],
-) -> anyhow::Result<Done> {
+) -> Result<Done, Failure> {
     let main = text_of(rt, manifest.main.as_bytes())?;
     println!(rt; "module {main}")?;
     for row in required.iter().take(manifest.required) {

@@ -2,8 +2,8 @@
 ghost use Rattle.std.specs.Prelude.{◌≡◌};
 ghost use Rattle.resolve.specs.Signs.{sign as signed};
 
+use crate::failure::Failure;
 use crate::print::Done;
-use anyhow::anyhow;
 use ordered::order::Ordered;
 use std::cmp::Ordering;
 use versions::version::Version;
@@ -19,7 +19,7 @@ pub fn sign(o: Ordering) -> i8
 }
 
 // Prints the sign for two texts, or says which of them is no version.
-pub fn compare(rt: &HostRuntime, a: &str, b: &str) -> anyhow::Result<Done> {
+pub fn compare(rt: &HostRuntime, a: &str, b: &str) -> Result<Done, Failure> {
     let Some(v) = Version::check(a.as_bytes()) else {
         return Err(no_version(rt, a)?);
     };
@@ -31,7 +31,7 @@ pub fn compare(rt: &HostRuntime, a: &str, b: &str) -> anyhow::Result<Done> {
     Ok(Done::Well)
 }
 
-pub fn no_version(rt: &HostRuntime, text: &str) -> anyhow::Result<anyhow::Error> {
+pub fn no_version(rt: &HostRuntime, text: &str) -> Result<Failure, Failure> {
     let message = format!(in rt.alloc(); "no version: {text}")?;
-    Ok(anyhow!(message))
+    Ok(Failure::Message(message))
 }

@@ -1,5 +1,6 @@
 // The manifests below a folder, by their names from there on, ascending by their bytes. Folders are looked into at any depth, but not through
 // links; a link to a file counts as that file. A name that is no UTF-8 is none of a manifest.
+use crate::failure::Failure;
 use crate::print::about;
 use std::fs;
 use std::fs::DirEntry;
@@ -7,7 +8,7 @@ use std::io::ErrorKind;
 use tree::layout::manifest_of;
 
 // A name below a folder; either may be empty.
-pub fn below(rt: &HostRuntime, folder: &str, name: &str) -> anyhow::Result<String> {
+pub fn below(rt: &HostRuntime, folder: &str, name: &str) -> Result<String, Failure> {
     let mut path = String::from_str(rt.alloc(), folder)?;
     if !folder.is_empty() && !name.is_empty() {
         path.push('/')?;
@@ -29,7 +30,7 @@ struct Found {
 }
 
 impl Found {
-    fn add(&mut self, rt: &HostRuntime, folder: &str, entry: &DirEntry) -> anyhow::Result<()> {
+    fn add(&mut self, rt: &HostRuntime, folder: &str, entry: &DirEntry) -> Result<(), Failure> {
         let name = entry.file_name();
         let path = below(rt, folder, name)?;
         if entry.file_type()?.is_dir() {
@@ -41,7 +42,7 @@ impl Found {
     }
 
     // Adds what stands in a folder below the first one.
-    fn look_into(&mut self, rt: &HostRuntime, dir: &str, folder: &str) -> anyhow::Result<()> {
+    fn look_into(&mut self, rt: &HostRuntime, dir: &str, folder: &str) -> Result<(), Failure> {
         let path = below(rt, dir, folder)?;
         let entries = match fs::read_dir(rt, path.as_str()) {
             Ok(entries) => entries,
@@ -61,7 +62,7 @@ impl Found {
     }
 }
 
-pub fn manifests_below(rt: &HostRuntime, dir: &str) -> anyhow::Result<Vec<String>> {
+pub fn manifests_below(rt: &HostRuntime, dir: &str) -> Result<Vec<String>, Failure> {
     let mut found = Found {
         folders: Vec::new(rt.alloc()),
         manifests: Vec::new(rt.alloc()),

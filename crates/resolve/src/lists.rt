@@ -1,6 +1,7 @@
 // `resolve list`, `resolve graph` and `resolve why`: a project over a pile, loaded from a manifest and listed.
 use crate::ask::path_of;
 use crate::check::file_bytes;
+use crate::failure::Failure;
 use crate::piles::{Task, with_pile};
 use crate::print::{Done, print_list, print_refusal, print_sheet, text_of};
 use commands::chains::chain_to;
@@ -27,7 +28,7 @@ pub struct Listing {
 }
 
 impl Task for Listing {
-    fn run<S: ListingSource>(&mut self, rt: &HostRuntime, pile: &mut S) -> anyhow::Result<Done> {
+    fn run<S: ListingSource>(&mut self, rt: &HostRuntime, pile: &mut S) -> Result<Done, Failure> {
         let mut project = Project::new(pile);
         if let Err(refusal) = project.load(self.text.as_slice()) {
             return print_refusal(rt, refusal);
@@ -47,7 +48,7 @@ fn print_view(
     sheet: &[Place],
     list: &[Row],
     counts: Counts,
-) -> anyhow::Result<Done> {
+) -> Result<Done, Failure> {
     match view {
         View::List => print_selection(rt, list, counts.rows)?,
         View::Sheet => print_sheet(rt, sheet, counts.places)?,
@@ -57,7 +58,7 @@ fn print_view(
 }
 
 // The list, the main module first and without a version.
-fn print_selection(rt: &HostRuntime, list: &[Row], count: usize) -> anyhow::Result<()> {
+fn print_selection(rt: &HostRuntime, list: &[Row], count: usize) -> Result<(), Failure> {
     let Some((main, others)) = list.split_first() else {
         return Ok(());
     };
@@ -73,7 +74,7 @@ fn print_chain(
     sheet: &[Place],
     list: &[Row],
     counts: Counts,
-) -> anyhow::Result<Done> {
+) -> Result<Done, Failure> {
     for row in list.iter().take(counts.rows) {
         if row.path == path.plain() {
             return print_chain_to(rt, row, sheet, counts.places);
@@ -89,7 +90,7 @@ fn print_chain_to(
     row: &Row,
     sheet: &[Place],
     places: usize,
-) -> anyhow::Result<Done> {
+) -> Result<Done, Failure> {
     for (i, place) in sheet.iter().enumerate().take(places) {
         if place.row == *row {
             let chain = chain_to(rt.alloc(), sheet, i)?;
@@ -100,7 +101,7 @@ fn print_chain_to(
 }
 
 // A chain, whose last row is the main one.
-fn print_from_main(rt: &HostRuntime, chain: &[Row]) -> anyhow::Result<Done> {
+fn print_from_main(rt: &HostRuntime, chain: &[Row]) -> Result<Done, Failure> {
     if let Some(main) = chain.last() {
         let path = text_of(rt, main.path.as_bytes())?;
         println!(rt; "{path}")?;
@@ -118,17 +119,17 @@ fn show_of(
     manifest: &str,
     view: View,
     sources: &[String],
-) -> anyhow::Result<Done> {
+) -> Result<Done, Failure> {
     let text = file_bytes(rt, manifest)?;
     let mut task = Listing { text, view };
     with_pile(rt, sources, &mut task)
 }
 
-pub fn list(rt: &HostRuntime, manifest: &str, sources: &[String]) -> anyhow::Result<Done> {
+pub fn list(rt: &HostRuntime, manifest: &str, sources: &[String]) -> Result<Done, Failure> {
     show_of(rt, manifest, View::List, sources)
 }
 
-pub fn graph(rt: &HostRuntime, manifest: &str, sources: &[String]) -> anyhow::Result<Done> {
+pub fn graph(rt: &HostRuntime, manifest: &str, sources: &[String]) -> Result<Done, Failure> {
     show_of(rt, manifest, View::Sheet, sources)
 }
 
@@ -137,7 +138,7 @@ pub fn why(
     manifest: &str,
     path: &str,
     sources: &[String],
-) -> anyhow::Result<Done> {
+) -> Result<Done, Failure> {
     let path = path_of(rt, path)?;
     show_of(rt, manifest, View::Chain(path), sources)
 }

@@ -5,6 +5,7 @@
 mod ask;
 mod check;
 mod compare;
+mod failure;
 mod folder;
 mod lists;
 mod network;
@@ -15,6 +16,7 @@ mod session;
 mod show;
 mod sources;
 
+use crate::failure::Failure;
 use crate::print::Done;
 use std::env;
 use std::process::ExitCode;
@@ -33,12 +35,12 @@ const USAGE: &str = "usage: resolve
 A SOURCE is tree:FILE, shelf:FILE or dir:DIR.";
 
 // On standard error, as whatever else goes wrong.
-fn print_usage(rt: &HostRuntime) -> anyhow::Result<Done> {
+fn print_usage(rt: &HostRuntime) -> Result<Done, Failure> {
     eprintln!(rt; "resolve: {USAGE}")?;
     Ok(Done::Refused)
 }
 
-fn run(rt: &HostRuntime) -> anyhow::Result<Done> {
+fn run(rt: &HostRuntime) -> Result<Done, Failure> {
     let words: Vec<String> = env::args(rt)?.skip(1).collect(rt.alloc())?;
     match words.as_slice() {
         [] => show::show(rt),

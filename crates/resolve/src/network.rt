@@ -1,7 +1,7 @@
 // `resolve tour`: the base network, embedded, taken through load, list, lower, exclude and a refusal, step by step and in words.
 use crate::ask::module_version_of;
+use crate::failure::{Failure, message};
 use crate::print::{Done, print_refusal, refusal_line, text_of};
-use anyhow::anyhow;
 use buffers::buffer::{Buffer, Kind};
 use causes::refusal::Refusal;
 use commands::packing::push_file;
@@ -52,13 +52,13 @@ const TOLD: &str =
   outfall v1.1.0 and outfall v1.3.0 require nothing";
 
 // The tree of the files but one.
-fn tree_without(rt: &HostRuntime, name: &str) -> anyhow::Result<Vec<u8>> {
+fn tree_without(rt: &HostRuntime, name: &str) -> Result<Vec<u8>, Failure> {
     let mut buffer = Vec::new(rt.alloc());
     for file in FILES {
         if file.name != name {
             let packed = push_file(&mut buffer, file.name.as_bytes(), file.body.as_bytes());
             if packed.is_err() {
-                return Err(anyhow!("the network does not fit a tree"));
+                return Err(message(rt, "the network does not fit a tree")?);
             }
         }
     }
@@ -66,7 +66,7 @@ fn tree_without(rt: &HostRuntime, name: &str) -> anyhow::Result<Vec<u8>> {
 }
 
 // What a call came to, in words.
-fn told(rt: &HostRuntime, answer: Result<(), Refusal>) -> anyhow::Result<()> {
+fn told(rt: &HostRuntime, answer: Result<(), Refusal>) -> Result<(), Failure> {
     match answer {
         Ok(()) => println!(rt; "   accepted")?,
         Err(refusal) => {
@@ -77,7 +77,7 @@ fn told(rt: &HostRuntime, answer: Result<(), Refusal>) -> anyhow::Result<()> {
     Ok(())
 }
 
-fn print_indented(rt: &HostRuntime, rows: &[Row], count: usize) -> anyhow::Result<()> {
+fn print_indented(rt: &HostRuntime, rows: &[Row], count: usize) -> Result<(), Failure> {
     for row in rows.iter().take(count) {
         let path = text_of(rt, row.path.as_bytes())?;
         let version = text_of(rt, row.version.as_bytes())?;
@@ -91,7 +91,7 @@ fn print_answer(
     rt: &HostRuntime,
     answer: Result<Counts, Refusal>,
     list: &[Row],
-) -> anyhow::Result<()> {
+) -> Result<(), Failure> {
     match answer {
         Ok(counts) => match list.split_first() {
             Some((_, others)) => print_indented(rt, others, counts.rows.saturating_sub(1)),
@@ -101,7 +101,7 @@ fn print_answer(
     }
 }
 
-fn show_list<S: ListingSource>(rt: &HostRuntime, project: &mut Project<S>) -> anyhow::Result<()> {
+fn show_list<S: ListingSource>(rt: &HostRuntime, project: &mut Project<S>) -> Result<(), Failure> {
     let mut sheet = [Place::blank(); 256];
     let mut list = [Row::blank(); 256];
     let answer = project.list(&mut sheet, &mut list);
@@ -111,7 +111,7 @@ fn show_list<S: ListingSource>(rt: &HostRuntime, project: &mut Project<S>) -> an
 fn load_and_list<S: ListingSource>(
     rt: &HostRuntime,
     project: &mut Project<S>,
-) -> anyhow::Result<()> {
+) -> Result<(), Failure> {
     println!(rt; "1. Load the manifest of upper.")?;
     told(rt, project.load(UPPER.as_bytes()))?;
     println!(rt;
@@ -127,7 +127,7 @@ fn load_and_list<S: ListingSource>(
 fn lower_and_list<S: ListingSource>(
     rt: &HostRuntime,
     project: &mut Project<S>,
-) -> anyhow::Result<()> {
+) -> Result<(), Failure> {
     println!(rt; "3. Lower outfall to v1.1.0. What is kept:")?;
     let outfall = module_version_of(rt, "outfall", "v1.1.0")?;
     let mut sheet = [Place::blank(); 256];
@@ -146,7 +146,7 @@ fn lower_and_list<S: ListingSource>(
 fn exclude_and_list<S: ListingSource>(
     rt: &HostRuntime,
     project: &mut Project<S>,
-) -> anyhow::Result<()> {
+) -> Result<(), Failure> {
     println!(rt; "5. Load upper again, exclude trunk v1.2.0, and list.")?;
     told(rt, project.load(UPPER.as_bytes()))?;
     let trunk = module_version_of(rt, "trunk", "v1.2.0")?;
@@ -164,7 +164,7 @@ fn exclude_and_list<S: ListingSource>(
 fn without_a_file<S: ListingSource>(
     rt: &HostRuntime,
     project: &mut Project<S>,
-) -> anyhow::Result<()> {
+) -> Result<(), Failure> {
     println!(rt; "7. The same network without the file of trunk v1.2.0: load upper, and list.")?;
     told(rt, project.load(UPPER.as_bytes()))?;
     show_list(rt, project)?;
@@ -174,7 +174,7 @@ fn without_a_file<S: ListingSource>(
     Ok(())
 }
 
-pub fn show(rt: &HostRuntime) -> anyhow::Result<Done> {
+pub fn show(rt: &HostRuntime) -> Result<Done, Failure> {
     println!(rt; "{TOLD}")?;
     let whole = tree_without(rt, "")?;
     let mut pile = Buffer::empty();

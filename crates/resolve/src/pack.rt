@@ -1,24 +1,24 @@
 // `resolve pack DIR FILE`: the manifests of a folder as one tree buffer. They come in ascending order of their names, and the names are those on
 // disk.
 use crate::check::file_bytes;
+use crate::failure::Failure;
 use crate::folder::{below, manifests_below};
 use crate::print::{Done, about};
-use anyhow::anyhow;
 use commands::packing::{NotPacked, push_file};
 use std::fs;
 
-fn not_packed(rt: &HostRuntime, file: &str, why: NotPacked) -> anyhow::Result<anyhow::Error> {
+fn not_packed(rt: &HostRuntime, file: &str, why: NotPacked) -> Result<Failure, Failure> {
     let words = match why {
         NotPacked::FileTooLong => "a file of over 65535 bytes",
         NotPacked::BufferTooLong => "a tree of over 65536 bytes, with",
         NotPacked::NoMemory => "no memory for",
     };
     let message = format!(in rt.alloc(); "{words}: {file}")?;
-    Ok(anyhow!(message))
+    Ok(Failure::Message(message))
 }
 
 // The tree of a folder.
-pub fn tree_of(rt: &HostRuntime, dir: &str) -> anyhow::Result<Vec<u8>> {
+pub fn tree_of(rt: &HostRuntime, dir: &str) -> Result<Vec<u8>, Failure> {
     let names = manifests_below(rt, dir)?;
     let mut buffer = Vec::new(rt.alloc());
     for name in names.as_slice() {
@@ -31,7 +31,7 @@ pub fn tree_of(rt: &HostRuntime, dir: &str) -> anyhow::Result<Vec<u8>> {
     Ok(buffer)
 }
 
-pub fn pack(rt: &HostRuntime, dir: &str, file: &str) -> anyhow::Result<Done> {
+pub fn pack(rt: &HostRuntime, dir: &str, file: &str) -> Result<Done, Failure> {
     let buffer = tree_of(rt, dir)?;
     match fs::write(rt, file, buffer.as_slice()) {
         Ok(()) => Ok(Done::Well),

@@ -1,8 +1,8 @@
 // A pile of sources from the command line. It is made of one to four buffers, the first over the rest by fallback: of a, b and c it is a fallback
 // of a and of a fallback of b and c. One buffer alone has nothing above it, so that depths are those of the sources themselves.
+use crate::failure::{Failure, message};
 use crate::print::{Done, print_refusal};
 use crate::sources::{Loaded, load};
-use anyhow::anyhow;
 use buffers::buffer::Buffer;
 use causes::refusal::Refusal;
 use layers::fallback::Fallback;
@@ -14,7 +14,7 @@ const FEW: &str = "a pile has one to four sources";
 
 // What a command does with a pile, whatever it is made of.
 pub trait Task {
-    fn run<S: ListingSource>(&mut self, rt: &HostRuntime, pile: &mut S) -> anyhow::Result<Done>;
+    fn run<S: ListingSource>(&mut self, rt: &HostRuntime, pile: &mut S) -> Result<Done, Failure>;
 }
 
 // The buffers of a pile, as far as there are any.
@@ -43,7 +43,11 @@ fn open_all<'a>(loaded: &'a [Loaded], opened: &mut Opened<'a>) -> Result<(), Ref
 }
 
 // Stacks the buffers, and does the task with the pile.
-fn with_loaded<T: Task>(rt: &HostRuntime, loaded: &[Loaded], task: &mut T) -> anyhow::Result<Done> {
+fn with_loaded<T: Task>(
+    rt: &HostRuntime,
+    loaded: &[Loaded],
+    task: &mut T,
+) -> Result<Done, Failure> {
     let mut opened = Opened {
         a: Buffer::empty(),
         b: Buffer::empty(),
@@ -62,7 +66,7 @@ fn with_loaded<T: Task>(rt: &HostRuntime, loaded: &[Loaded], task: &mut T) -> an
             rt,
             &mut Fallback::new(a, Fallback::new(b, Fallback::new(c, d))),
         ),
-        _ => Err(anyhow!(FEW)),
+        _ => Err(message(rt, FEW)?),
     }
 }
 
@@ -71,9 +75,9 @@ pub fn with_pile<T: Task>(
     rt: &HostRuntime,
     words: &[String],
     task: &mut T,
-) -> anyhow::Result<Done> {
+) -> Result<Done, Failure> {
     if words.len() > MOST {
-        return Err(anyhow!(FEW));
+        return Err(message(rt, FEW)?);
     }
     let mut loaded = Vec::new(rt.alloc());
     for word in words {

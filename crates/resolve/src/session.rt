@@ -2,9 +2,9 @@
 // script can read; a line that cannot be understood is an error, and the next line is read.
 use crate::ask::{module_version_of, path_of};
 use crate::check::file_bytes;
+use crate::failure::{Failure, message};
 use crate::piles::{Task, with_pile};
 use crate::print::{Done, print_list, print_row, print_sheet, refusal_line, text_of};
-use anyhow::anyhow;
 use modules::rows::Row;
 use project::project::Project;
 use runs::calls::{Call, ListingCall, Part, Reply};
@@ -24,7 +24,7 @@ enum Step {
 pub struct Session {}
 
 impl Task for Session {
-    fn run<S: ListingSource>(&mut self, rt: &HostRuntime, pile: &mut S) -> anyhow::Result<Done> {
+    fn run<S: ListingSource>(&mut self, rt: &HostRuntime, pile: &mut S) -> Result<Done, Failure> {
         let mut project = Project::new(pile);
         let mut sheet = vec![in rt.alloc(); Place::blank(); 256]?;
         let mut list = vec![in rt.alloc(); Row::blank(); 256]?;
@@ -46,7 +46,7 @@ fn answer<S: ListingSource>(
     line: &str,
     sheet: &mut [Place],
     list: &mut [Row],
-) -> anyhow::Result<()> {
+) -> Result<(), Failure> {
     let words: Vec<&str> = line.split_whitespace().collect(rt.alloc())?;
     if words.is_empty() {
         return Ok(());
@@ -66,7 +66,7 @@ fn make(call: Call) -> Step {
 }
 
 // What the words of a line ask for; a load's file is read.
-fn step_of(rt: &HostRuntime, words: &[&str], text: &mut Vec<u8>) -> anyhow::Result<Step> {
+fn step_of(rt: &HostRuntime, words: &[&str], text: &mut Vec<u8>) -> Result<Step, Failure> {
     match words {
         [verb] if *verb == "list" => Ok(make(Call::List)),
         [verb] if *verb == "show" => Ok(Step::Show),
@@ -77,11 +77,11 @@ fn step_of(rt: &HostRuntime, words: &[&str], text: &mut Vec<u8>) -> anyhow::Resu
         }
         [verb, path] if *verb == "drop" => Ok(make(Call::Drop(path_of(rt, path)?))),
         [verb, path, version] => change_of(rt, verb, path, version),
-        _ => Err(anyhow!("no such call")),
+        _ => Err(message(rt, "no such call")?),
     }
 }
 
-fn change_of(rt: &HostRuntime, verb: &str, path: &str, version: &str) -> anyhow::Result<Step> {
+fn change_of(rt: &HostRuntime, verb: &str, path: &str, version: &str) -> Result<Step, Failure> {
     let of = module_version_of(rt, path, version)?;
     if verb == "raise" {
         return Ok(make(Call::Raise(of)));
@@ -92,7 +92,7 @@ fn change_of(rt: &HostRuntime, verb: &str, path: &str, version: &str) -> anyhow:
     if verb == "lower" {
         return Ok(Step::Make(ListingCall::Lower(of)));
     }
-    Err(anyhow!("no such call"))
+    Err(message(rt, "no such call")?)
 }
 
 // A reply, and behind that of a call which writes the slices what they hold.
@@ -102,7 +102,7 @@ fn print_reply(
     reply: Reply,
     sheet: &[Place],
     list: &[Row],
-) -> anyhow::Result<()> {
+) -> Result<(), Failure> {
     match reply {
         Reply::Accepted => {
             println!(rt; "ok")?;
@@ -139,7 +139,7 @@ fn print_slices(
     places: usize,
     list: &[Row],
     rows: usize,
-) -> anyhow::Result<()> {
+) -> Result<(), Failure> {
     println!(rt; "sheet")?;
     print_sheet(rt, sheet, places)?;
     println!(rt; "list")?;
@@ -168,7 +168,7 @@ fn used_rows(list: &[Row]) -> usize {
     used
 }
 
-fn print_project<S: ListingSource>(rt: &HostRuntime, project: &Project<S>) -> anyhow::Result<()> {
+fn print_project<S: ListingSource>(rt: &HostRuntime, project: &Project<S>) -> Result<(), Failure> {
     let main = text_of(rt, project.main().as_bytes())?;
     println!(rt; "project {main}")?;
     for row in project.requirements() {
@@ -180,7 +180,7 @@ fn print_project<S: ListingSource>(rt: &HostRuntime, project: &Project<S>) -> an
     Ok(())
 }
 
-pub fn run(rt: &HostRuntime, sources: &[String]) -> anyhow::Result<Done> {
+pub fn run(rt: &HostRuntime, sources: &[String]) -> Result<Done, Failure> {
     let mut task = Session {};
     with_pile(rt, sources, &mut task)
 }

@@ -1,4 +1,5 @@
 // The library at work on a few embedded examples: checks, the order of versions, the newer of two texts, and a table.
+use crate::failure::Failure;
 use crate::print::{Done, text_of};
 use modules::listing::Listing;
 use names::path::Path;
@@ -26,7 +27,7 @@ const MIXED: [&str; 9] = [
     "v1.0.0-rc.1",
 ];
 
-pub fn show(rt: &HostRuntime) -> anyhow::Result<Done> {
+pub fn show(rt: &HostRuntime) -> Result<Done, Failure> {
     show_paths(rt)?;
     show_versions(rt)?;
     show_newer(rt, "v1.9.0", "v1.10.0")?;
@@ -39,7 +40,7 @@ fn verdict(good: bool) -> &'static str {
     if good { "yes" } else { "no" }
 }
 
-fn show_paths(rt: &HostRuntime) -> anyhow::Result<()> {
+fn show_paths(rt: &HostRuntime) -> Result<(), Failure> {
     println!(rt;
         "Is it a path? Elements joined by slashes, none empty, none with a dot first or last."
     )?;
@@ -50,7 +51,7 @@ fn show_paths(rt: &HostRuntime) -> anyhow::Result<()> {
     Ok(())
 }
 
-fn show_versions(rt: &HostRuntime) -> anyhow::Result<()> {
+fn show_versions(rt: &HostRuntime) -> Result<(), Failure> {
     println!(rt;
         "Is it a version? v, three numbers, perhaps identifiers; no number with a zero in front."
     )?;
@@ -61,7 +62,7 @@ fn show_versions(rt: &HostRuntime) -> anyhow::Result<()> {
     Ok(())
 }
 
-fn show_newer(rt: &HostRuntime, a: &str, b: &str) -> anyhow::Result<()> {
+fn show_newer(rt: &HostRuntime, a: &str, b: &str) -> Result<(), Failure> {
     let first = a.as_bytes();
     let answer = if newer(first, b.as_bytes()) == first {
         a
@@ -73,7 +74,7 @@ fn show_newer(rt: &HostRuntime, a: &str, b: &str) -> anyhow::Result<()> {
 }
 
 // Puts versions into a table in whatever order they come, and prints it.
-fn show_table(rt: &HostRuntime) -> anyhow::Result<()> {
+fn show_table(rt: &HostRuntime) -> Result<(), Failure> {
     let mut listing = Listing::new();
     let mut taken = 0u8;
     for text in MIXED {

@@ -1,7 +1,7 @@
 // The sources that a command line names, read into memory; a folder is packed as a tree.
 use crate::check::file_bytes;
+use crate::failure::Failure;
 use crate::pack::tree_of;
-use anyhow::anyhow;
 use buffers::buffer::Kind;
 use commands::arguments::{Form, argument_of};
 
@@ -13,12 +13,12 @@ pub struct Loaded {
 }
 
 // Reads the source that a word names.
-pub fn load(rt: &HostRuntime, word: &str) -> anyhow::Result<Loaded> {
+pub fn load(rt: &HostRuntime, word: &str) -> Result<Loaded, Failure> {
     let Some(argument) = argument_of(word) else {
         let message = format!(in rt.alloc();
             "no source (tree:FILE, shelf:FILE or dir:DIR): {word}"
         )?;
-        return Err(anyhow!(message));
+        return Err(Failure::Message(message));
     };
     let (kind, bytes) = match argument.form {
         Form::Tree => (Kind::Tree, file_bytes(rt, argument.place)?),

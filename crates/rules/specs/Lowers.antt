@@ -179,7 +179,7 @@ module _ (w : View) where
     pub ascending : AscendingRows rows
     pub on_old_paths : (x : ModuleVersion) → x ∈ rows → OnOldPath cs x
     -- By chains: a kept row fits, and whatever fits on an old path stands at or below a kept row. Whatever lies in a sound set fits
-    -- (`Sets-right`), so this speaks of every set, told by a test or not.
+    -- (`SetsRight`), so this speaks of every set, told by a test or not.
     pub fits : (x : ModuleVersion) → x ∈ rows → Fits cs x
     pub highest : (x : ModuleVersion) → OnOldPath cs x → Fits cs x → Stands x rows
     -- By sets that are told by a test: the kept rows lie in a sound one, and none holds an old path above its kept row. Where there
