@@ -1,13 +1,13 @@
 #!/usr/bin/env python3
 """Calls the library's `AllByRecursion` by its name, where the port's script imports it as `All`: the library has another word of that name, and the
-gate refuses the alias. And gives a type the spelling of types where that script gave it another. Run once, behind respell_made.py."""
+gate refuses the alias. And gives back their own spelling to a few names that the script took for the library's. Run once, behind respell_made.py."""
 import sys
 
 from respell import TOKEN, files, parts
 
 ALIAS = "AllByRecursion as All"
 
-TYPES = {"Goes_on": "GoesOn"}
+NAMES = {"Goes_on": "GoesOn", "SomeOf": "some_of", "in_List": "in_list", "plain_Row": "plain_row"}
 
 
 def main():
@@ -15,7 +15,7 @@ def main():
     changed = 0
     for p in files(root, (".antt", ".rt")):
         text = open(p, encoding="utf-8").read()
-        words = dict(TYPES)
+        words = dict(NAMES)
         if ALIAS in text:
             words["All"] = "AllByRecursion"
         out = []

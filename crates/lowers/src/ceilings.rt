@@ -5,7 +5,7 @@ ghost use Rattle.std.specs.Ordering.{is_lt, is_eq};
 ghost use Rattle.rules.specs.Paths.{path_order};
 ghost use Rattle.rules.specs.Versions.{version_order};
 ghost use Rattle.rules.specs.Names.{same_path};
-ghost use Rattle.rules.specs.Lowers.{some as SomeOf, ceiling_of as ceiling_over, is_above as tests_above};
+ghost use Rattle.rules.specs.Lowers.{some as some_of, ceiling_of as ceiling_over, is_above as tests_above};
 ghost use Rattle.names.specs.Paths.{path_bytes};
 ghost use Rattle.versions.specs.Values.{version_bytes};
 ghost use Rattle.modules.specs.Rows.{row_names};
@@ -32,7 +32,7 @@ fn stands_above(row: &Row, path: &Path, version: &Version) -> bool
 
 // Whether one of the rows is on the path, above the version.
 pub(crate) fn can_lower(rows: &[Row], path: &Path, version: &Version) -> bool
-    ensures value { result ≡ SomeOf (λ x. same_path x (path_bytes path.now) && is_lt (version_order (version_bytes version.now) x.version)) (map row_names rows.now) }
+    ensures value { result ≡ some_of (λ x. same_path x (path_bytes path.now) && is_lt (version_order (version_bytes version.now) x.version)) (map row_names rows.now) }
 {
     for row in rows {
         if stands_above(row, path, version) {

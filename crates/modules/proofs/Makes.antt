@@ -61,11 +61,11 @@ no_room_longer x t = go (row_of x.path t) refl
         by_version false r = let z : ◌≡◌ {A = ℕ} 0 1 = cc in absurd (omega arith)
 
 -- the rows u are gone through to i, h is their table so far, and x is the row at i
-module _ (u h : List ModuleVersion) (i : ℕ) (x : ModuleVersion) (so_far : h ≡ table (take i u)) (in_List : i < length u) (read : x ≡ get_or u i x) where
+module _ (u h : List ModuleVersion) (i : ℕ) (x : ModuleVersion) (so_far : h ≡ table (take i u)) (in_list : i < length u) (read : x ≡ get_or u i x) where
   more : with_row x h ≡ table (take (i + 1) u)
   more =
       ap (with_row x) so_far ∙ sym (entered_all_push path_of path_order higher [] (take i u) x)
-      ∙ ap table (ap (λ y. take i u ++ y ∷ []) read ∙ sym (take_more u i x in_List))
+      ∙ ap table (ap (λ y. take i u ++ y ∷ []) read ∙ sym (take_more u i x in_list))
 
   pub raised_more : (zs : List ModuleVersion) → zs ≡ with_row x h → zs ≡ table (take (i + 1) u)
   raised_more zs e = e ∙ more

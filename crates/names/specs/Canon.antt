@@ -7,7 +7,7 @@ use Rattle.std.proofs.lemmas.Bool.{cases_lt}
 use Rattle.names.specs.Padding.{Padded}
 use Rattle.names.specs.Texts.{text_bytes}
 use Rattle.names.specs.contracts.text.Text.{struct, the_ghost, the_propositions}
-use Rattle.names.specs.contracts.path.PlainPath.{the_row as plain_Row}
+use Rattle.names.specs.contracts.path.PlainPath.{the_row as plain_row}
 use Rattle.names.specs.contracts.path.Path.{struct as path_struct, the_ghost as path_ghost, the_propositions as path_propositions}
 use Rattle.names.specs.declared.text.Text.{Text}
 use Rattle.names.specs.Paths.{plain_path_bytes, path_bytes}
@@ -41,4 +41,4 @@ same_plain_path p q e i = record { text = same_text p.text q.text e i }
 pub same_path : (p q : Path) → path_bytes p ≡ path_bytes q → p ≡ q
 same_path p q e =
     let f : p.plain ≡ q.plain = same_plain_path p.plain q.plain e in
-    λ i. path_struct.make (f i, tt) (is_prop→PathP (λ j. path_ghost (f j, tt)) (λ j. path_propositions plain_Row.coded (f j, tt)) (path_struct.ghosts p) (path_struct.ghosts q) i)
+    λ i. path_struct.make (f i, tt) (is_prop→PathP (λ j. path_ghost (f j, tt)) (λ j. path_propositions plain_row.coded (f j, tt)) (path_struct.ghosts p) (path_struct.ghosts q) i)

@@ -49,12 +49,12 @@ module _ {A K : Type 0} (key : A → K) (order : K → K → Ordering) where
 
   -- the items u of the second table are gone through to i, h is what is joined so far, and x is the item at i
   module _ (t u h : List A) (i : ℕ) (so_far : h ≡ joined key order t (take i u)) where
-    module _ (x : A) (in_List : i < length u) (read : x ≡ get_or u i x) where
+    module _ (x : A) (in_list : i < length u) (read : x ≡ get_or u i x) where
       more : entered key order keep x h ≡ joined key order t (take (i + 1) u)
       more =
           ap (entered key order keep x) so_far
           ∙ sym (entered_all_push key order keep t (take i u) x)
-          ∙ ap (joined key order t) (ap (λ y. take i u ++ y ∷ []) read ∙ sym (take_more u i x in_List))
+          ∙ ap (joined key order t) (ap (λ y. take i u ++ y ∷ []) read ∙ sym (take_more u i x in_list))
 
       pub joined_more : (zs : List A) → zs ≡ entered key order keep x h → zs ≡ joined key order t (take (i + 1) u)
       joined_more zs e = e ∙ more

@@ -18,11 +18,11 @@ module _ {A K : Type 0} (key : A → K) (order : K → K → Ordering) (k : K) (
   Left i = moved i (sought key order k (drop i xs)) ≡ sought key order k xs
 
   -- the search stands at i, before an item x whose key is k', and k' was compared
-  module _ (i : ℕ) (left : Left i) (x : A) (in_List : i < length xs) (read : x ≡ get_or xs i x) (k' : K) (keyed : k' ≡ key x) where
+  module _ (i : ℕ) (left : Left i) (x : A) (in_list : i < length xs) (read : x ≡ get_or xs i x) (k' : K) (keyed : k' ≡ key x) where
     turn : (o : Ordering) → o ≡ order k k' → moved i (sought_by key order o (sought key order k (drop (i + 1) xs))) ≡ sought key order k xs
     turn o e =
         ap (λ p. moved i (sought_by key order p (sought key order k (drop (i + 1) xs)))) (e ∙ ap (order k) keyed)
-        ∙ ap (λ ys. moved i (sought key order k ys)) (ap (λ y. y ∷ drop (i + 1) xs) read ∙ sym (drop_more xs i x in_List))
+        ∙ ap (λ ys. moved i (sought key order k ys)) (ap (λ y. y ∷ drop (i + 1) xs) read ∙ sym (drop_more xs i x in_list))
         ∙ left
 
     pub turn_less : Less ≡ order k k' → Err i ≡ sought key order k xs

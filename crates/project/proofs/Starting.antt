@@ -43,12 +43,12 @@ one_more rows n of xs x h e q =
 
 -- a turn of the loop: of the rows u those to i are gone through, and n of them taken
 module _ (es u : List ModuleVersion) (rows : List V.ModuleVersion) (n i : ℕ) (x : ModuleVersion) (low : n ≤ i) (long : length rows ≡ 256) (so_far : map names_of (take n rows) ≡ included es (take i u))
-    (in_List : i < length u) (read : x ≡ get_or u i x) where
+    (in_list : i < length u) (read : x ≡ get_or u i x) where
   pub turn_taken : (of : V.ModuleVersion) (after : List V.ModuleVersion) (k : ℕ) → n < 256 → names_of of ≡ x → has es x ≡ false → after ≡ set rows n of → k ≡ n + 1
       → (k ≤ i + 1) × (length after ≡ 256) × (map names_of (take k after) ≡ included es (take (i + 1) u))
   turn_taken of after k room e t p q =
       let grown : length (set rows n of) ≡ 256 = simp length-set long in
-      (omega arith, ap length p ∙ grown, ap₂ (λ j (ys : List V.ModuleVersion). map names_of (take j ys)) q p ∙ one_more rows n of (included es (take i u)) x (omega arith) so_far e ∙ sym (taken es u i x in_List read t))
+      (omega arith, ap length p ∙ grown, ap₂ (λ j (ys : List V.ModuleVersion). map names_of (take j ys)) q p ∙ one_more rows n of (included es (take i u)) x (omega arith) so_far e ∙ sym (taken es u i x in_list read t))
 
   pub turn_left : (after : List V.ModuleVersion) (k : ℕ) → has es x ≡ true → after ≡ rows → k ≡ n → (k ≤ i + 1) × (length after ≡ 256) × (map names_of (take k after) ≡ included es (take (i + 1) u))
-  turn_left after k t p q = (omega arith, ap length p ∙ long, ap₂ (λ j (ys : List V.ModuleVersion). map names_of (take j ys)) q p ∙ so_far ∙ sym (left_out es u i x in_List read t))
+  turn_left after k t p q = (omega arith, ap length p ∙ long, ap₂ (λ j (ys : List V.ModuleVersion). map names_of (take j ys)) q p ∙ so_far ∙ sym (left_out es u i x in_list read t))

@@ -1,4 +1,7 @@
 // What ends a command without an answer or a refusal: a message for the reader, or what went wrong with memory, input or output.
+ghost use Rattle.std.specs.Prelude.{IfOk};
+ghost use Rattle.resolve.specs.Messages.{Says};
+
 use std::alloc::{AllocError, AllocFailed};
 use std::{fmt, io};
 
@@ -38,8 +41,10 @@ impl fmt::Display for Failure {
     }
 }
 
-// A message of fixed words.
-pub fn message(rt: &HostRuntime, words: &str) -> Result<Failure, Failure> {
+// A message of these words, unless memory runs out.
+pub fn message(rt: &HostRuntime, words: &str) -> Result<Failure, Failure>
+    ensures value { IfOk result (λ f. Says words.now f) }
+{
     let text = String::from_str(rt.alloc(), words)?;
     Ok(Failure::Message(text))
 }

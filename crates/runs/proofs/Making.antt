@@ -24,12 +24,13 @@ law_at m law calls b = record { right = runs_right m law calls; changes = change
 -- the law, where the reply, the state and the slices are as the rules say
 pub goes_on : (m : Meaning) → Lawful m → (s : State) (c : Call) (reply : Reply) (t : State) (before slices : Slices)
     → reply ≡ (does m s c).reply → t ≡ (does m s c).state → slices ≡ leaves m s c before
-    → (calls : List Call) → AllByRecursion InBounds calls → s ≡ after m fresh calls → GoesOn m calls c reply t before slices
-goes_on m law s c reply t before slices p q w calls b e = record {
+    → (calls : List Call) → s ≡ after m fresh calls → GoesOn m calls c reply t before slices
+goes_on m law s c reply t before slices p q w calls e = record {
   replied = p ∙ ap (λ (u : State). (does m u c).reply) e;
   changed = q ∙ ap (λ (u : State). (does m u c).state) e ∙ after_more m fresh calls c;
   written = w ∙ ap (λ (u : State). leaves m u c before) e;
-  law = law_at m law calls b;
+  right = runs_right m law calls;
+  law = law_at m law calls;
 }
 
 -- what the door ensures of a call

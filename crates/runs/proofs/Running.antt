@@ -1,9 +1,9 @@
 -- One call after another: what a turn of a run adds. Assumes nothing.
-use Rattle.std.proofs.Common.{◌≡◌, ℕ, zero, suc, ◌+◌, ◌<◌, ◌≤◌, min, List, [], ◌∷◌, ◌++◌, map, length, get_or, take, drop, set, Some, Option, sym, refl, ap, ◌∙◌, subst, ap₂, arith, length-append, length-set}
-use mathlib.Core.List as L
+use Rattle.std.proofs.Common.{◌≡◌, ℕ, suc, ◌+◌, ◌<◌, ◌≤◌, min, List, [], ◌∷◌, ◌++◌, map, length, get_or, take, drop, set, Some, Option, sym, refl, ap, ◌∙◌, subst, ap₂, arith, length-append, length-set}
 use lib.ListN.{length-map}
 use lib.Seq.{take-set-le}
 use Rattle.std.specs.Option.{option_map}
+use Rattle.std.proofs.ByRecursion.{All-take}
 use Rattle.std.proofs.lemmas.List.{take_more, get_or-set_same, map_push, drop-set-lt, drop-drop, length-take-le}
 use Rattle.rules.specs.Sources.{Meaning, Lawful}
 use Rattle.rules.specs.Projects.{State}
@@ -16,7 +16,7 @@ use Rattle.rules.proofs.Readings.{well_formed}
 use Rattle.rules.specs.Runs.{after, fresh, InBounds}
 use Rattle.runs.specs.Law.{leaves, replies, slices_after, RunsBy}
 use Rattle.runs.specs.Parts.{part_of}
-use Rattle.runs.specs.Told.{call_of, listing_call_of, calls_of, listing_calls_of, reply_told, ToldIn}
+use Rattle.runs.specs.Told.{call_of, listing_call_of, reply_told, ToldIn}
 use Rattle.runs.specs.declared.calls.Call.{Call}
 use Rattle.runs.specs.declared.calls.Call.TheVariants.{Load, Raise, Drop, Exclude, List as Lists}
 use Rattle.runs.specs.declared.calls.ListingCall.{ListingCall}
@@ -78,7 +78,7 @@ module _ {C : Type 0} (f : Lent → C → R.Call) (m : Meaning) (s : State) (n :
     -- one call more
     pub ran_more : RanTo i pile t sl rs → here ≡ n → i < length asked → x ≡ get_or asked i x → i < length rs → pile' ≡ pile
         → reply_told r ≡ (R.does pile t (f here x)).reply → t' ≡ (R.does pile t (f here x)).state → sl' ≡ leaves pile t (f here x) sl → RanTo (i + 1) pile' t' sl' (set rs i (Some r))
-    ran_more ran lengths in_List read room keeps replied changed written = record {
+    ran_more ran lengths in_list read room keeps replied changed written = record {
       same = keeps ∙ ran.same;
       state = changed ∙ (λ h. (R.does (ran.same h) (ran.state h) (f (lengths h) x)).state) ∙ after_more m s (made i) (f n x) ∙ ap (after m s) more;
       slices = written ∙ (λ h. leaves (ran.same h) (ran.state h) (f (lengths h) x) (ran.slices h)) ∙ slices_more m s (made i) (f n x) b ∙ ap (λ ks. slices_after m s ks b) more;
@@ -91,40 +91,32 @@ module _ {C : Type 0} (f : Lent → C → R.Call) (m : Meaning) (s : State) (n :
         long = length-map (take i asked) (f n) ∙ length-take-le i asked (omega arith)
 
         more : made i ++ f n x ∷ [] ≡ made (i + 1)
-        more = sym (map_push (f n) (take i asked) x) ∙ ap (map (f n)) (ap (λ y. take i asked ++ y ∷ []) read ∙ sym (take_more asked i x in_List))
+        more = sym (map_push (f n) (take i asked) x) ∙ ap (map (f n)) (ap (λ y. take i asked ++ y ∷ []) read ∙ sym (take_more asked i x in_list))
 
 -- what is read is in bounds
 read_in_bounds : (text : Bytes) (r : M.Reading) → M.reading 256 text ≡ r → InBounds (R.load r)
 read_in_bounds text (M.manifest t) e = let few = (well_formed 256 text t e).0 in (few.require_rows, few.exclude_rows)
 read_in_bounds text (M.unread c k) e = tt
 
-in_bounds : (texts : Bytes) (n : Lent) (c : Call) → InBounds (call_of texts n c)
+pub in_bounds : (texts : Bytes) (n : Lent) (c : Call) → InBounds (call_of texts n c)
 in_bounds texts n (Load p) = read_in_bounds (part_of texts p.start p.end) (M.reading 256 (part_of texts p.start p.end)) refl
 in_bounds texts n (Raise x) = tt
 in_bounds texts n (Drop p) = tt
 in_bounds texts n (Exclude x) = tt
 in_bounds texts n Lists = tt
 
-listing_in_bounds : (texts : Bytes) (n : Lent) (c : ListingCall) → InBounds (listing_call_of texts n c)
+pub listing_in_bounds : (texts : Bytes) (n : Lent) (c : ListingCall) → InBounds (listing_call_of texts n c)
 listing_in_bounds texts n (Any c) = in_bounds texts n c
 listing_in_bounds texts n (Lower x) = tt
 
-pub all_in_bounds : (texts : Bytes) (n : Lent) (cs : L.List Call) → AllByRecursion InBounds (calls_of texts n cs)
-all_in_bounds texts n [] = tt
-all_in_bounds texts n (c ∷ cs) = (in_bounds texts n c, all_in_bounds texts n cs)
-
-pub all_listing_in_bounds : (texts : Bytes) (n : Lent) (cs : L.List ListingCall) → AllByRecursion InBounds (listing_calls_of texts n cs)
-all_listing_in_bounds texts n [] = tt
-all_listing_in_bounds texts n (c ∷ cs) = (listing_in_bounds texts n c, all_listing_in_bounds texts n cs)
-
-all_first : (i : ℕ) (cs : L.List R.Call) → AllByRecursion InBounds cs → AllByRecursion InBounds (take i cs)
-all_first zero cs b = tt
-all_first (suc i) [] b = tt
-all_first (suc i) (c ∷ cs) (b, bs) = (b, all_first i cs bs)
+-- calls that are told so are in bounds, if each is
+pub all_in_bounds : {C : Type 0} (f : C → R.Call) → ((c : C) → InBounds (f c)) → (cs : List C) → AllByRecursion InBounds (map f cs)
+all_in_bounds f each [] = tt
+all_in_bounds f each (c ∷ cs) = (each c, all_in_bounds f each cs)
 
 -- the whole run, on a fresh project
 pub runs_by : (m : Meaning) → Lawful m → (cs : List R.Call) → AllByRecursion InBounds cs → (t : State) (b sl : Slices) → t ≡ after m fresh cs → sl ≡ slices_after m fresh cs b → RunsBy m cs t b sl
-runs_by m law cs bounds t b sl p q = record { changed = p; written = q; law = λ i l. law_at m law (take i cs) (all_first i cs bounds) }
+runs_by m law cs bounds t b sl p q = record { changed = p; written = q; law = λ i l. law_at m law (take i cs) (All-take InBounds i cs bounds) }
 
 -- as many calls as there are places for replies
 pub within : (a b n : ℕ) → n ≡ min a b → (n ≤ a) × (n ≤ b)

@@ -1,15 +1,16 @@
 -- The law over runs: at one call more, and of a whole run. Assumes nothing.
 use Rattle.std.specs.Prelude.{◌≡◌, ℕ, ◌≤◌, List, [], ◌∷◌, ◌++◌, length, take}
+use Rattle.std.specs.List.{AllByRecursion}
 use Rattle.rules.specs.Sources.{Meaning}
 use Rattle.rules.specs.Projects.{State}
 use Rattle.rules.specs.Slices.{Slices}
 use Rattle.rules.specs.Calls.{Call, load, raise, drop, exclude, lower, list, Reply, does}
-use Rattle.rules.specs.Runs.{after, fresh, outcome, Right, Tidy}
+use Rattle.rules.specs.Runs.{after, fresh, outcome, Right, Tidy, InBounds}
 use Rattle.rules.specs.Changes.{Changes}
 
 -- what a call leaves in the two slices that are lent beside it: list and lower write them, and no other call does
 abbrev pub leaves : Meaning → State → Call → Slices → Slices
-leaves m s (load text) before = before
+leaves m s (load r) before = before
 leaves m s (raise x) before = before
 leaves m s (drop p) before = before
 leaves m s (exclude x) before = before
@@ -24,12 +25,14 @@ pub record LawAt (m : Meaning) (calls : List Call) : Type 0 where
   pub tidy : Tidy (after m fresh calls)
 
 -- One call more, c, on a project that is fresh but for some calls: its reply, the state and the slices after it are what the rules make of those calls
--- and of this one, and the law holds there.
+-- and of this one, and the promises of list and lower hold there; the whole law does where the loads among those calls are in bounds, as all that is
+-- read is.
 pub record GoesOn (m : Meaning) (calls : List Call) (c : Call) (reply : Reply) (state : State) (before slices : Slices) : Type 0 where
   pub replied : reply ≡ (outcome m calls c).reply
   pub changed : state ≡ after m fresh (calls ++ c ∷ [])
   pub written : slices ≡ leaves m (after m fresh calls) c before
-  pub law : LawAt m calls
+  pub right : Right m (after m fresh calls)
+  pub law : AllByRecursion InBounds calls → LawAt m calls
 
 -- ---- a whole run
 

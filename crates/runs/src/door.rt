@@ -2,8 +2,7 @@
 ghost use Rattle.std.specs.Prelude.{◌≡◌, List};
 ghost use Rattle.rules.specs.Calls.{does, Call as Asked};
 ghost use Rattle.rules.specs.Projects.{State};
-ghost use Rattle.rules.specs.Runs.{after as after_calls, fresh as fresh_state, InBounds};
-ghost use Rattle.std.specs.List.{AllByRecursion};
+ghost use Rattle.rules.specs.Runs.{after as after_calls, fresh as fresh_state};
 ghost use Rattle.project.specs.Projects.{state_of, pile_of, counted_as};
 ghost use Rattle.project.specs.States.{changed as changed_as};
 ghost use Rattle.walks.specs.Listed.{lent, slices_of, reply_of as counts_told};
@@ -50,7 +49,7 @@ pub fn call<S: Source>(
     ensures after { state_of project.new ≡ (does (pile_of S.Source.meaning project.old) (state_of project.old) (call_of texts.now (lent sheet.old list.old) call.now)).state }
     ensures items { slices_of sheet.new list.new ≡ leaves (pile_of S.Source.meaning project.old) (state_of project.old) (call_of texts.now (lent sheet.old list.old) call.now) (slices_of sheet.old list.old) }
     ensures same { pile_of S.Source.meaning project.new ≡ pile_of S.Source.meaning project.old }
-    ensures law { (calls : List Asked) → AllByRecursion InBounds calls → state_of project.old ≡ after_calls (pile_of S.Source.meaning project.old) fresh_state calls → GoesOn (pile_of S.Source.meaning project.old) calls (call_of texts.now (lent sheet.old list.old) call.now) (reply_told result) (state_of project.new) (slices_of sheet.old list.old) (slices_of sheet.new list.new) }
+    ensures law { (calls : List Asked) → state_of project.old ≡ after_calls (pile_of S.Source.meaning project.old) fresh_state calls → GoesOn (pile_of S.Source.meaning project.old) calls (call_of texts.now (lent sheet.old list.old) call.now) (reply_told result) (state_of project.new) (slices_of sheet.old list.old) (slices_of sheet.new list.new) }
 {
     match call {
         Call::Load(part) => reply_of_change(project.load(part.of(texts))),

@@ -1,8 +1,7 @@
 // The door and a run over a source that can list: all six calls.
 ghost use Rattle.std.specs.Prelude.{◌≡◌, min, List, length, take};
 ghost use Rattle.rules.specs.Calls.{does, Call as Asked};
-ghost use Rattle.rules.specs.Runs.{after as after_calls, fresh as fresh_state, InBounds};
-ghost use Rattle.std.specs.List.{AllByRecursion};
+ghost use Rattle.rules.specs.Runs.{after as after_calls, fresh as fresh_state};
 ghost use Rattle.project.specs.Projects.{state_of, pile_of};
 ghost use Rattle.walks.specs.Listed.{lent, slices_of};
 ghost use Rattle.runs.specs.Told.{listing_call_of, listing_calls_of, reply_told, ToldIn};
@@ -27,7 +26,7 @@ pub fn call_listing<S: ListingSource>(
     ensures after { state_of project.new ≡ (does (pile_of S.Source.meaning project.old) (state_of project.old) (listing_call_of texts.now (lent sheet.old list.old) asked.now)).state }
     ensures items { slices_of sheet.new list.new ≡ leaves (pile_of S.Source.meaning project.old) (state_of project.old) (listing_call_of texts.now (lent sheet.old list.old) asked.now) (slices_of sheet.old list.old) }
     ensures same { pile_of S.Source.meaning project.new ≡ pile_of S.Source.meaning project.old }
-    ensures law { (calls : List Asked) → AllByRecursion InBounds calls → state_of project.old ≡ after_calls (pile_of S.Source.meaning project.old) fresh_state calls → GoesOn (pile_of S.Source.meaning project.old) calls (listing_call_of texts.now (lent sheet.old list.old) asked.now) (reply_told result) (state_of project.new) (slices_of sheet.old list.old) (slices_of sheet.new list.new) }
+    ensures law { (calls : List Asked) → state_of project.old ≡ after_calls (pile_of S.Source.meaning project.old) fresh_state calls → GoesOn (pile_of S.Source.meaning project.old) calls (listing_call_of texts.now (lent sheet.old list.old) asked.now) (reply_told result) (state_of project.new) (slices_of sheet.old list.old) (slices_of sheet.new list.new) }
 {
     match asked {
         ListingCall::Any(other) => call(project, other, texts, sheet, list),

@@ -40,11 +40,11 @@ module _ (x : ModuleVersion) (ps : List Place) where
       go None = refl
       go (Some j) = ap Some (omega arith)
 
-  module _ (i : ℕ) (left : Left i) (p : Place) (in_List : i < length ps) (read : p ≡ get_or ps i p) where
+  module _ (i : ℕ) (left : Left i) (p : Place) (in_list : i < length ps) (read : p ≡ get_or ps i p) where
     turn : (b : Bool) → b ≡ same x (place_of p).row → moved i (cond b (Some 0) (option_map suc (place_from (i + 1)))) ≡ place_in (module_versions (map place_of ps)) x
     turn b e =
         ap (λ t. moved i (cond t (Some 0) (option_map suc (place_from (i + 1))))) (e ∙ ap (λ (q : Place). same x (place_of q).row) read)
-        ∙ ap (moved i) (sym (at_drop_more (λ qs. place_in (module_versions (map place_of qs)) x) ps i p in_List))
+        ∙ ap (moved i) (sym (at_drop_more (λ qs. place_in (module_versions (map place_of qs)) x) ps i p in_list))
         ∙ left
 
     pub turn_here : true ≡ same x (place_of p).row → Some i ≡ place_in (module_versions (map place_of ps)) x

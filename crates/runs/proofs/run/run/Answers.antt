@@ -5,7 +5,7 @@ use Rattle.project.specs.Projects.{state_of, pile_of}
 use Rattle.walks.specs.Listed.{lent, slices_of}
 use Rattle.runs.specs.Law.{replies, slices_after}
 use Rattle.runs.specs.Told.{call_of, calls_of, ToldIn}
-use Rattle.runs.proofs.Running.{ran_none, ran_more, runs_by, all_in_bounds, within}
+use Rattle.runs.proofs.Running.{ran_none, ran_more, runs_by, in_bounds, all_in_bounds, within}
 use Rattle.runs.proofs.run.run.Goals as goal
 
 pub loop-i-init : goal.loop-i-init
@@ -50,7 +50,7 @@ returns g c =
     let b = slices_of c.args.sheet.now c.args.list.now in
     record {
       same = ran.same ∙ m0;
-      law = runs_by m (g.S.Source.lawful c.args.pile) cs (all_in_bounds c.args.texts.now n (take k calls)) (state_of c.loop-i.project) b (slices_of c.loop-i.sheet c.loop-i.list)
+      law = runs_by m (g.S.Source.lawful c.args.pile) cs (all_in_bounds (call_of c.args.texts.now n) (in_bounds c.args.texts.now n) (take k calls)) (state_of c.loop-i.project) b (slices_of c.loop-i.sheet c.loop-i.list)
           (ran.state ∙ λ h. after (m0 h) (s0 h) (made h)) (ran.slices ∙ λ h. slices_after (m0 h) (s0 h) (made h) b);
       items = coe 0 1 (h. ToldIn c.args.replies.now c.loop-i.replies (replies (m0 h) (s0 h) (made h))) ran.told;
     }
