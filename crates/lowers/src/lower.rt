@@ -43,9 +43,9 @@ fn lower_ceilings<S: ListingSource>(
     sheet: &mut [Place],
     rows: usize,
 ) -> Result<Lowered, Refusal>
-    requires in_bounds { 256 ≤ length sheet.old }
-    requires all { AllByRecursion (λ c. is_path c.path ≡ true) (map row_names ceilings.now) }
-    requires ascending_rows { AscendingRows (map row_names ceilings.now) × AllByRecursion (λ c. c.path ≢ path_bytes main.now) (map row_names ceilings.now) }
+    requires room { 256 ≤ length sheet.old }
+    requires formed { AllByRecursion (λ c. is_path c.path ≡ true) (map row_names ceilings.now) }
+    requires ascending { AscendingRows (map row_names ceilings.now) × AllByRecursion (λ c. c.path ≢ path_bytes main.now) (map row_names ceilings.now) }
     ensures same { S.Source.meaning source.new ≡ S.Source.meaning source.old }
     ensures inside { S.Source.inside source.new ≡ S.Source.inside source.old }
     ensures value { reply_of result ≡ replied (lower_walk_from (seen_by (path_bytes main.now) (S.Source.meaning source.old)) (map row_names ceilings.now)).end (length (lower_walk_from (seen_by (path_bytes main.now) (S.Source.meaning source.old)) (map row_names ceilings.now)).sheet) rows }
@@ -78,9 +78,9 @@ fn lower_rows<S: ListingSource>(
     version: &Version,
     sheet: &mut [Place],
 ) -> Result<Lowered, Refusal>
-    requires in_bounds { (256 ≤ length sheet.old) × (length rows.now ≤ 255) }
-    requires all { AllByRecursion (λ c. is_path c.path ≡ true) (map row_names rows.now) }
-    requires ascending_rows { AscendingRows (map row_names rows.now) × AllByRecursion (λ c. c.path ≢ path_bytes main.now) (map row_names rows.now) }
+    requires room { (256 ≤ length sheet.old) × (length rows.now ≤ 255) }
+    requires formed { AllByRecursion (λ c. is_path c.path ≡ true) (map row_names rows.now) }
+    requires ascending { AscendingRows (map row_names rows.now) × AllByRecursion (λ c. c.path ≢ path_bytes main.now) (map row_names rows.now) }
     ensures same { S.Source.meaning source.new ≡ S.Source.meaning source.old }
     ensures inside { S.Source.inside source.new ≡ S.Source.inside source.old }
     ensures value { reply_of result ≡ (if lowerable (path_bytes path.now) (version_bytes version.now) (map row_names rows.now) then replied (lower_walk_from (seen_by (path_bytes main.now) (S.Source.meaning source.old)) (map (ceiling_over (path_bytes path.now) (version_bytes version.now)) (map row_names rows.now))).end (length (lower_walk_from (seen_by (path_bytes main.now) (S.Source.meaning source.old)) (map (ceiling_over (path_bytes path.now) (version_bytes version.now)) (map row_names rows.now))).sheet) (length rows.now + 1) else refused (refusal_for nothing_to_change)) }

@@ -96,8 +96,8 @@ fn write_offer<S: ListingSource>(
     count: usize,
     ceiling: &Row,
 ) -> Result<usize, Stop>
-    requires count_bound { (count ≤ 256) × (256 ≤ length sheet.old) }
-    requires ceiling_value { is_path (row_names ceiling.now).path ≡ true }
+    requires room { (count ≤ 256) × (256 ≤ length sheet.old) }
+    requires formed { is_path (row_names ceiling.now).path ≡ true }
     ensures same { S.Source.meaning source.new ≡ S.Source.meaning source.old }
     ensures inside { S.Source.inside source.new ≡ S.Source.inside source.old }
     ensures value { Tells (offer_written (ended done) (row_names ceiling.now) (map place_of (take count sheet.old)) ((S.Source.meaning source.old).listing (row_names ceiling.now).path)) result sheet.new }
@@ -120,8 +120,8 @@ pub(crate) fn write_offers<S: ListingSource>(
     sheet: &mut [Place],
     count: usize,
 ) -> Result<usize, Stop>
-    requires count_bound { (count ≤ 256) × (256 ≤ length sheet.old) }
-    requires all { AllByRecursion (λ c. is_path c.path ≡ true) (map row_names ceilings.now) }
+    requires room { (count ≤ 256) × (256 ≤ length sheet.old) }
+    requires formed { AllByRecursion (λ c. is_path c.path ≡ true) (map row_names ceilings.now) }
     ensures same { S.Source.meaning source.new ≡ S.Source.meaning source.old }
     ensures inside { S.Source.inside source.new ≡ S.Source.inside source.old }
     ensures value { Tells (offers_written (S.Source.meaning source.old) (ended done) (map row_names ceilings.now) (map place_of (take count sheet.old))) result sheet.new }

@@ -41,8 +41,8 @@ fn start_sheet<S: ListingSource>(
     ceilings: &[Row],
     sheet: &mut [Place],
 ) -> Result<usize, Stop>
-    requires in_bounds { 256 ≤ length sheet.old }
-    requires all { AllByRecursion (λ c. is_path c.path ≡ true) (map row_names ceilings.now) }
+    requires room { 256 ≤ length sheet.old }
+    requires formed { AllByRecursion (λ c. is_path c.path ≡ true) (map row_names ceilings.now) }
     ensures same { S.Source.meaning source.new ≡ S.Source.meaning source.old }
     ensures inside { S.Source.inside source.new ≡ S.Source.inside source.old }
     ensures value { Tells (offers_written (S.Source.meaning source.old) (ended done) (map row_names ceilings.now) (first_sheet (bare (path_bytes main.now)))) result sheet.new }
@@ -61,9 +61,9 @@ pub(crate) fn lower_under<S: ListingSource>(
     ceilings: &[Row],
     sheet: &mut [Place],
 ) -> Result<Under, Stop>
-    requires in_bounds { 256 ≤ length sheet.old }
-    requires all { AllByRecursion (λ c. is_path c.path ≡ true) (map row_names ceilings.now) }
-    requires ascending_rows { AscendingRows (map row_names ceilings.now) × AllByRecursion (λ c. c.path ≢ path_bytes main.now) (map row_names ceilings.now) }
+    requires room { 256 ≤ length sheet.old }
+    requires formed { AllByRecursion (λ c. is_path c.path ≡ true) (map row_names ceilings.now) }
+    requires ascending { AscendingRows (map row_names ceilings.now) × AllByRecursion (λ c. c.path ≢ path_bytes main.now) (map row_names ceilings.now) }
     ensures same { S.Source.meaning source.new ≡ S.Source.meaning source.old }
     ensures inside { S.Source.inside source.new ≡ S.Source.inside source.old }
     ensures value { Tells (lower_walk_from (seen_by (path_bytes main.now) (S.Source.meaning source.old)) (map row_names ceilings.now)) (places_under result) sheet.new }

@@ -43,7 +43,7 @@ fn ask_place<S: Source>(
     at: usize,
     learned: &mut Learned,
 ) -> Result<usize, Stop>
-    requires count_bound { (count ≤ 256) × (256 ≤ length sheet.old) × (1 ≤ at) × (at < count) }
+    requires room { (count ≤ 256) × (256 ≤ length sheet.old) × (1 ≤ at) × (at < count) }
     requires formed { Formed (map place_of (take count sheet.old)) }
     requires under { Under (map row_names ceilings.now) at (map place_of (take count sheet.old)) }
     requires knows { Knows (seen_by (path_bytes main.now) (S.Source.meaning source.old)) (map row_names ceilings.now) (map place_of (take count sheet.old)) learned.old at }
@@ -79,7 +79,7 @@ fn question_under<S: Source>(
     at: usize,
     learned: &mut Learned,
 ) -> Result<usize, Stop>
-    requires count_bound { (count ≤ 256) × (256 ≤ length sheet.old) × (1 ≤ at) × (at < count) }
+    requires room { (count ≤ 256) × (256 ≤ length sheet.old) × (1 ≤ at) × (at < count) }
     requires formed { Formed (map place_of (take count sheet.old)) }
     requires knows { Knows (seen_by (path_bytes main.now) (S.Source.meaning source.old)) (map row_names ceilings.now) (map place_of (take count sheet.old)) learned.old at }
     ensures same { S.Source.meaning source.new ≡ S.Source.meaning source.old }
@@ -104,7 +104,7 @@ pub(crate) fn walk_under<S: Source>(
     count: usize,
     learned: &mut Learned,
 ) -> Result<usize, Stop>
-    requires le_count { (1 ≤ count) × (count ≤ 256) × (256 ≤ length sheet.old) }
+    requires room { (1 ≤ count) × (count ≤ 256) × (256 ≤ length sheet.old) }
     requires formed { Formed (map place_of (take count sheet.old)) }
     requires knows { Knows (seen_by (path_bytes main.now) (S.Source.meaning source.old)) (map row_names ceilings.now) (map place_of (take count sheet.old)) learned.old 1 }
     ensures same { S.Source.meaning source.new ≡ S.Source.meaning source.old }

@@ -58,7 +58,7 @@ fn question<S: Source>(
     count: usize,
     at: usize,
 ) -> Result<usize, Stop>
-    requires count_bound { (count ≤ 256) × (256 ≤ length sheet.old) × (1 ≤ at) × (at < count) }
+    requires room { (count ≤ 256) × (256 ≤ length sheet.old) × (1 ≤ at) × (at < count) }
     requires formed { Formed (map place_of (take count sheet.old)) }
     ensures same { S.Source.meaning source.new ≡ S.Source.meaning source.old }
     ensures inside { S.Source.inside source.new ≡ S.Source.inside source.old }
@@ -82,7 +82,7 @@ fn walk_on<S: Source>(
     sheet: &mut [Place],
     count: usize,
 ) -> Result<usize, Stop>
-    requires le_count { (1 ≤ count) × (count ≤ 256) × (256 ≤ length sheet.old) }
+    requires room { (1 ≤ count) × (count ≤ 256) × (256 ≤ length sheet.old) }
     requires formed { Formed (map place_of (take count sheet.old)) }
     ensures same { S.Source.meaning source.new ≡ S.Source.meaning source.old }
     ensures inside { S.Source.inside source.new ≡ S.Source.inside source.old }

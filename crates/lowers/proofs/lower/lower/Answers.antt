@@ -59,9 +59,9 @@ lower_rows-requires g c =
     let law = g.S.Source.lawful c.args.source.now in
     let long : 256 ≤ length c.list.new.sheet = omega (arith, long_sheet n (given w start n c.in-Ok.counts.places rows v).0, c.list.auto.sheet) in
     let short : length (take (rows - 1) (drop 1 list)) ≤ 255 = omega (arith, few, ap length is, length-map (take (rows - 1) (drop 1 list)) row_names) in record {
-      in_bounds = (long, short);
-      all = subst (λ (xs : List ModuleVersion). AllByRecursion (λ x. is_path x.path ≡ true) xs) (sym is) (behind_formed w start law (formed_names c.args.start.now));
-      ascending_rows = (
+      room = (long, short);
+      formed = subst (λ (xs : List ModuleVersion). AllByRecursion (λ x. is_path x.path ≡ true) xs) (sym is) (behind_formed w start law (formed_names c.args.start.now));
+      ascending = (
         subst (λ (xs : List ModuleVersion). AscendingRows xs) (sym is) (behind_up w start),
         subst (λ (xs : List ModuleVersion). AllByRecursion (λ x. x.path ≡ main → ⊥) xs) (sym is) (behind_off w start),
       );

@@ -30,11 +30,11 @@ lower_ceilings-requires g c =
     let xs = map row_names c.args.rows.now in
     let e = sym (lent_ceilings c.write_ceilings.new.ceilings (map (ceiling_of p v) xs) (length c.args.rows.now) c.write_ceilings.ensures.after) in
     let long : 256 ≤ length c.args.sheet.now = omega arith in record {
-      in_bounds = long;
-      all = subst (λ (cs : List ModuleVersion). AllByRecursion (λ x. is_path x.path ≡ true) cs) e (ceilings_formed main p v xs c.requires.all c.requires.ascending_rows.0 c.requires.ascending_rows.1);
-      ascending_rows = (
-        subst (λ (cs : List ModuleVersion). AscendingRows cs) e (ceilings_up main p v xs c.requires.all c.requires.ascending_rows.0 c.requires.ascending_rows.1),
-        subst (λ (cs : List ModuleVersion). AllByRecursion (λ x. x.path ≡ main → ⊥) cs) e (ceilings_off main p v xs c.requires.all c.requires.ascending_rows.0 c.requires.ascending_rows.1),
+      room = long;
+      formed = subst (λ (cs : List ModuleVersion). AllByRecursion (λ x. is_path x.path ≡ true) cs) e (ceilings_formed main p v xs c.requires.formed c.requires.ascending.0 c.requires.ascending.1);
+      ascending = (
+        subst (λ (cs : List ModuleVersion). AscendingRows cs) e (ceilings_up main p v xs c.requires.formed c.requires.ascending.0 c.requires.ascending.1),
+        subst (λ (cs : List ModuleVersion). AllByRecursion (λ x. x.path ≡ main → ⊥) cs) e (ceilings_off main p v xs c.requires.formed c.requires.ascending.0 c.requires.ascending.1),
       );
     }
 

@@ -32,7 +32,7 @@ pub write_offer-requires : goal.write_offer-requires
 write_offer-requires g c =
     let (short, same, inside, rest) = c.loop-ceiling.invariant in
     let long : 256 ≤ length c.loop-ceiling.sheet = omega (arith, c.loop-ceiling.auto.sheet) in
-    record { count_bound = (short, long); ceiling_value = all_at (λ x. is_path x.path ≡ true) c.args.ceilings.now c.loop-ceiling.ceiling-index c.ceiling-item.result c.requires.all c.loop-ceiling-test.true c.ceiling-item.is }
+    record { room = (short, long); formed = all_at (λ x. is_path x.path ≡ true) c.args.ceilings.now c.loop-ceiling.ceiling-index c.ceiling-item.result c.requires.formed c.loop-ceiling-test.true c.ceiling-item.is }
 
 pub loop-ceiling-preserved : goal.loop-ceiling-preserved
 loop-ceiling-preserved g c =

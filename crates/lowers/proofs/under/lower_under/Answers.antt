@@ -27,12 +27,12 @@ walk_under-requires g c =
     let w = seen_by main m in
     let law = g.S.Source.lawful c.args.source.now in
     let cs = map row_names c.args.ceilings.now in
-    let (e, few, n, is) = begun w law cs c.requires.ascending_rows.0 c.requires.ascending_rows.1 c.requires.all c.in-Ok.offered c.start_sheet.new.sheet c.in-Ok.ensures.value in
-    let one : 1 ≤ c.in-Ok.offered = omega (arith, n, begun_long w law cs c.requires.ascending_rows.0 c.requires.ascending_rows.1 c.requires.all) in
+    let (e, few, n, is) = begun w law cs c.requires.ascending.0 c.requires.ascending.1 c.requires.formed c.in-Ok.offered c.start_sheet.new.sheet c.in-Ok.ensures.value in
+    let one : 1 ≤ c.in-Ok.offered = omega (arith, n, begun_long w law cs c.requires.ascending.0 c.requires.ascending.1 c.requires.formed) in
     let short : c.in-Ok.offered ≤ 256 = omega (arith, n, few) in
     let long : 256 ≤ length c.start_sheet.new.sheet = omega (arith, c.start_sheet.auto.sheet) in record {
-      le_count = (one, short, long);
-      formed = subst Formed (sym e) (first_formed w law cs c.requires.ascending_rows.0 c.requires.ascending_rows.1 c.requires.all);
+      room = (one, short, long);
+      formed = subst Formed (sym e) (first_formed w law cs c.requires.ascending.0 c.requires.ascending.1 c.requires.formed);
       knows = knows_none _ cs (map place_of (take c.in-Ok.offered c.start_sheet.new.sheet)) c.new-learned.result
           (λ i. ap (λ (bs : List Bool). get_or bs i false) c.new-learned.ensures.marks ∙ none_marked 256 i) c.new-learned.ensures.edges;
     }
@@ -47,26 +47,26 @@ spread-requires g c =
     let o = c.in-Ok.offered in
     let mid = c.start_sheet.new.sheet in
     let after = c.walk_under.new.sheet in
-    let b = begun w law cs c.requires.ascending_rows.0 c.requires.ascending_rows.1 c.requires.all o mid c.in-Ok.ensures.value in
+    let b = begun w law cs c.requires.ascending.0 c.requires.ascending.1 c.requires.formed o mid c.in-Ok.ensures.value in
     let same = c.in-Ok.ensures.same in
     let n = c.in-Ok-walk_under.places in
     let l = c.walk_under.new.learned in
     let t = subst (λ (q : Meaning). Tells (walk (lower_ask (seen_by main q) cs) 255 1 (map place_of (take o mid))) (Ok n) after) same c.in-Ok-walk_under.ensures.value in
     let knows = subst (λ (q : Meaning). Knows (seen_by main q) cs (map place_of (take n after)) l n) same c.in-Ok-walk_under.ensures.learned in
-    narrow_told w law cs c.requires.ascending_rows.0 c.requires.ascending_rows.1 c.requires.all o n mid after b t l knows
+    narrow_told w law cs c.requires.ascending.0 c.requires.ascending.1 c.requires.formed o n mid after b t l knows
 
 pub slice_bounds-keep_rows-end : goal.slice_bounds-keep_rows-end
 slice_bounds-keep_rows-end g c =
     let w = seen_by (path_bytes c.args.main.now) (g.S.Source.meaning c.args.source.now) in
     let cs = map row_names c.args.ceilings.now in
-    let (e, few, n, is) = begun w (g.S.Source.lawful c.args.source.now) cs c.requires.ascending_rows.0 c.requires.ascending_rows.1 c.requires.all c.in-Ok.offered c.start_sheet.new.sheet c.in-Ok.ensures.value in
+    let (e, few, n, is) = begun w (g.S.Source.lawful c.args.source.now) cs c.requires.ascending.0 c.requires.ascending.1 c.requires.formed c.in-Ok.offered c.start_sheet.new.sheet c.in-Ok.ensures.value in
     omega (arith, n, few, c.start_sheet.auto.sheet, c.walk_under.auto.sheet)
 
 pub keep_rows-kept-requires : goal.keep_rows-kept-requires
 keep_rows-kept-requires g c =
     let w = seen_by (path_bytes c.args.main.now) (g.S.Source.meaning c.args.source.now) in
     let cs = map row_names c.args.ceilings.now in
-    let (e, few, n, is) = begun w (g.S.Source.lawful c.args.source.now) cs c.requires.ascending_rows.0 c.requires.ascending_rows.1 c.requires.all c.in-Ok.offered c.start_sheet.new.sheet c.in-Ok.ensures.value in
+    let (e, few, n, is) = begun w (g.S.Source.lawful c.args.source.now) cs c.requires.ascending.0 c.requires.ascending.1 c.requires.formed c.in-Ok.offered c.start_sheet.new.sheet c.in-Ok.ensures.value in
     omega (arith, n, few, length-take (c.in-Ok.offered - 0) c.walk_under.new.sheet)
 
 pub returns-in-Ok-walk_under : goal.returns-in-Ok-walk_under
@@ -79,7 +79,7 @@ returns-in-Ok-walk_under g c =
     let o = c.in-Ok.offered in
     let mid = c.start_sheet.new.sheet in
     let after = c.walk_under.new.sheet in
-    let b = begun w law cs c.requires.ascending_rows.0 c.requires.ascending_rows.1 c.requires.all o mid c.in-Ok.ensures.value in
+    let b = begun w law cs c.requires.ascending.0 c.requires.ascending.1 c.requires.formed o mid c.in-Ok.ensures.value in
     let same = c.in-Ok.ensures.same in
     let n = c.in-Ok-walk_under.places in
     let l = c.walk_under.new.learned in
@@ -92,10 +92,10 @@ returns-in-Ok-walk_under g c =
     record {
       same = c.in-Ok-walk_under.ensures.same ∙ same;
       inside = c.in-Ok-walk_under.ensures.inside ∙ c.in-Ok.ensures.inside;
-      value = value_told w law cs c.requires.ascending_rows.0 c.requires.ascending_rows.1 c.requires.all o n mid after b t l knows;
-      kept = names ∙ kept_told w law cs c.requires.ascending_rows.0 c.requires.ascending_rows.1 c.requires.all o n mid after b t l knows k c.spread.ensures.marks c.spread.ensures.edges;
+      value = value_told w law cs c.requires.ascending.0 c.requires.ascending.1 c.requires.formed o n mid after b t l knows;
+      kept = names ∙ kept_told w law cs c.requires.ascending.0 c.requires.ascending.1 c.requires.formed o n mid after b t l knows k c.spread.ensures.marks c.spread.ensures.edges;
       formed = subst (λ (xs : List ModuleVersion). every is_module_version xs ≡ true) (sym names)
-          (formed_told w law cs c.requires.ascending_rows.0 c.requires.ascending_rows.1 c.requires.all o n mid after b t l knows k c.spread.ensures.marks c.spread.ensures.edges);
+          (formed_told w law cs c.requires.ascending.0 c.requires.ascending.1 c.requires.formed o n mid after b t l knows k c.spread.ensures.marks c.spread.ensures.edges);
     }
 
 pub returns-in-Err-walk_under : goal.returns-in-Err-walk_under
@@ -108,14 +108,14 @@ returns-in-Err-walk_under g c =
     let o = c.in-Ok.offered in
     let mid = c.start_sheet.new.sheet in
     let after = c.walk_under.new.sheet in
-    let b = begun w law cs c.requires.ascending_rows.0 c.requires.ascending_rows.1 c.requires.all o mid c.in-Ok.ensures.value in
+    let b = begun w law cs c.requires.ascending.0 c.requires.ascending.1 c.requires.formed o mid c.in-Ok.ensures.value in
     let same = c.in-Ok.ensures.same in
     let stop = c.in-Err-walk_under.stop in
     let t = subst (λ (q : Meaning). Tells (walk (lower_ask (seen_by main q) cs) 255 1 (map place_of (take o mid))) (Err stop) after) same c.in-Err-walk_under.ensures.value in
     record {
       same = c.in-Err-walk_under.ensures.same ∙ same;
       inside = c.in-Err-walk_under.ensures.inside ∙ c.in-Ok.ensures.inside;
-      value = stopped_told w law cs c.requires.ascending_rows.0 c.requires.ascending_rows.1 c.requires.all o stop mid after b t;
+      value = stopped_told w law cs c.requires.ascending.0 c.requires.ascending.1 c.requires.formed o stop mid after b t;
       kept = tt;
       formed = tt;
     }
@@ -127,7 +127,7 @@ returns-in-Err g c =
     record {
       same = c.in-Err.ensures.same;
       inside = c.in-Err.ensures.inside;
-      value = not_begun w (g.S.Source.lawful c.args.source.now) cs c.requires.ascending_rows.0 c.requires.ascending_rows.1 c.requires.all c.in-Err.stop c.start_sheet.new.sheet c.in-Err.ensures.value;
+      value = not_begun w (g.S.Source.lawful c.args.source.now) cs c.requires.ascending.0 c.requires.ascending.1 c.requires.formed c.in-Err.stop c.start_sheet.new.sheet c.in-Err.ensures.value;
       kept = tt;
       formed = tt;
     }

@@ -57,4 +57,4 @@ ask_place-requires g c =
     let fits : n ≤ length ps = omega arith in
     let x = row_names (get_or ps i c.index-sheet-at.result).row in
     let there = row_here w cs i s (in_front ps n i lt fits) x (row_at ps n i c.index-sheet-at.result lt fits) in
-    record { count_bound = c.requires.count_bound; formed = c.requires.formed; under = λ y h. let same : x ≡ y = cc in subst (λ (z : ModuleVersion). is_above cs z ≡ false) same (sym c.if-is_above.ensures.value); knows = c.requires.knows }
+    record { room = c.requires.room; formed = c.requires.formed; under = λ y h. let same : x ≡ y = cc in subst (λ (z : ModuleVersion). is_above cs z ≡ false) same (sym c.if-is_above.ensures.value); knows = c.requires.knows }

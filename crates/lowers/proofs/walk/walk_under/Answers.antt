@@ -22,7 +22,7 @@ question_under-requires g c =
     let s = map place_of (take c.loop-at.places c.loop-at.sheet) in
     let long : 256 ≤ length c.loop-at.sheet = omega (arith, c.loop-at.auto.sheet) in
     let lt : c.loop-at.at < c.loop-at.places = omega arith in
-    record { count_bound = (high, long, one, lt); formed = formed; knows = subst (λ (q : Meaning). Knows (seen_by (path_bytes c.args.main.now) q) cs s c.loop-at.learned c.loop-at.at) (sym same) knows }
+    record { room = (high, long, one, lt); formed = formed; knows = subst (λ (q : Meaning). Knows (seen_by (path_bytes c.args.main.now) q) cs s c.loop-at.learned c.loop-at.at) (sym same) knows }
 
 pub loop-at-preserved : goal.loop-at-preserved
 loop-at-preserved g c =

@@ -19,7 +19,7 @@ walk_on-requires g c =
     let (one, short, formed, e) = starts_on w (map names_of c.args.start.now) (map place_of (take 1 (set ps 0 p))) (first_place main ps c.main_row.result c.main_row.ensures.value some)
     c.write_start.new.sheet (formed_names c.args.start.now) c.in-Ok.count c.in-Ok.ensures.value in
     let long : 256 ≤ length c.write_start.new.sheet = omega (arith, c.write_start.auto.sheet, length-set ps 0 p) in
-    record { le_count = (one, short, long); formed = formed }
+    record { room = (one, short, long); formed = formed }
 
 pub returns-in-Ok : goal.returns-in-Ok
 returns-in-Ok g c =
