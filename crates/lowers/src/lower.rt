@@ -124,8 +124,6 @@ pub fn lower<S: ListingSource>(
 }
 
 // A project's lower is this one, over the exclude layer of its state and from its rows but the exclusions.
-pub fn lowers_stand() -> u8
+pub fn lowers_stand()
     ensures { LowerStands }
-{
-    0
-}
+{}

@@ -16,127 +16,91 @@ ghost use Rattle.rules.specs.Examples.{Examples};
 ghost use Rattle.rules.specs.Manifests.{ReadingsRight};
 
 // The orders of paths, versions and module versions obey the laws; versions stand by precedence, and what is no version is below them all.
-pub fn orders_stand() -> u8
+pub fn orders_stand()
     ensures { OrdersRight }
-{
-    0
-}
+{}
 
 // Lookup, insertion, joining and removal in tables of any items by any key, in any order that obeys the laws.
-pub fn tables_stand<T, K>() -> u8
+pub fn tables_stand<T, K>()
     ensures { TablesRight T K }
-{
-    0
-}
+{}
 
 // Over a lawful meaning the exclude layer is lawful; and what it answers.
-pub fn layer_stands() -> u8
+pub fn layer_stands()
     ensures { LayerRight }
-{
-    0
-}
+{}
 
 // Over lawful meanings the fallback layer is lawful; and what it answers.
-pub fn fallback_stands() -> u8
+pub fn fallback_stands()
     ensures { FallbackRight }
-{
-    0
-}
+{}
 
 // What an exclude layer over a fallback answers, and a fallback over two exclude layers.
-pub fn two_layers_stand() -> u8
+pub fn two_layers_stand()
     ensures { TwoLayersRight }
-{
-    0
-}
+{}
 
 // Every pile of layers on lawful sources is lawful.
-pub fn pile_stands() -> u8
+pub fn pile_stands()
     ensures { PileRight }
-{
-    0
-}
+{}
 
 // What a question in a lent slice answers, and what the slice then holds.
-pub fn questions_stand() -> u8
+pub fn questions_stand()
     ensures { QuestionsRight }
-{
-    0
-}
+{}
 
 // On the sheet of a list each place came from an earlier one, and the from numbers lead back along a chain.
-pub fn sheet_stands() -> u8
+pub fn sheet_stands()
     ensures { SheetsRight }
-{
-    0
-}
+{}
 
 // A list is the one that a walk gives exactly when it is fit and nowhere above any list that is fit.
-pub fn list_stands() -> u8
+pub fn list_stands()
     ensures { ListRight }
-{
-    0
-}
+{}
 
 // While at most 256 are reached, a list is refused exactly when for some reached one no requirement list is to be had, and a chain to it is shown.
-pub fn refusal_stands() -> u8
+pub fn refusal_stands()
     ensures { RefusalRight }
-{
-    0
-}
+{}
 
 // The kept rows of a lower lie in a sound set, no sound set has an old path above them, and a list right then shows just them.
-pub fn lower_stands() -> u8
+pub fn lower_stands()
     ensures { LowerRight }
-{
-    0
-}
+{}
 
 // Whatever lies in a sound set fits, whichever set it is.
-pub fn sets_stand<T>() -> u8
+pub fn sets_stand<T>()
     ensures { SetsRight T }
-{
-    0
-}
+{}
 
 // The rows that a lower computes are the kept rows, and no others are.
-pub fn kept_stands() -> u8
+pub fn kept_stands()
     ensures { KeptMeant }
-{
-    0
-}
+{}
 
 // All of this holds after every run of calls from the fresh state.
-pub fn runs_stand() -> u8
+pub fn runs_stand()
     ensures { RunsRight }
-{
-    0
-}
+{}
 
 // After every run both tables of the state are tables and in bounds.
-pub fn tidy_stands() -> u8
+pub fn tidy_stands()
     ensures { TidyRight }
-{
-    0
-}
+{}
 
 // What load, raise, drop and exclude do to the tables, what they leave, and when they are accepted and refused.
-pub fn changes_stand() -> u8
+pub fn changes_stand()
     ensures { ChangesRight }
-{
-    0
-}
+{}
 
 // What worked cases answer.
-pub fn examples_stand() -> u8
+pub fn examples_stand()
     ensures { Examples }
-{
-    0
-}
+{}
 
 // What a text is read to is well formed and within the bounds, and every such manifest is read back from its plain text.
-pub fn readings_stand() -> u8
+pub fn readings_stand()
     ensures { ReadingsRight }
-{
-    0
-}
+{}

@@ -2,14 +2,10 @@
 // proved.
 ghost use Rattle.tree.specs.Examples.{Trees, NamesRight};
 
-pub fn trees_stand() -> u8
+pub fn trees_stand()
     ensures { Trees }
-{
-    0
-}
+{}
 
-pub fn names_stand() -> u8
+pub fn names_stand()
     ensures { NamesRight }
-{
-    0
-}
+{}

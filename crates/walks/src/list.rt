@@ -68,8 +68,6 @@ pub fn list<S: Source>(
 }
 
 // A project's walk and list are these, over the exclude layer of its state and from its rows but the exclusions.
-pub fn walks_stand() -> u8
+pub fn walks_stand()
     ensures { WalkRight × ListRight }
-{
-    0
-}
+{}
