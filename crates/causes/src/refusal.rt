@@ -4,6 +4,7 @@ ghost use Rattle.std.specs.Prelude.{◌≡◌};
 ghost use Rattle.causes.specs.Told.{refusal_of, cause_of, of_place};
 
 use crate::cause::Cause;
+use std::fmt;
 
 #[derive(Clone, Copy, PartialEq, Eq, Debug)]
 pub struct Refusal {
@@ -24,5 +25,26 @@ impl Refusal {
             depth: 0,
             sheet_place: 0,
         }
+    }
+}
+
+// A refusal that names nothing but its cause.
+impl From<Cause> for Refusal {
+    ghost from_gives = { λ c r. refusal_of r ≡ of_place (cause_of c) 0 };
+
+    fn from(cause: Cause) -> Refusal {
+        Refusal::at(cause, 0)
+    }
+}
+
+// The cause by its number, the three places, and the cause in words: a line that a script and a person can read.
+impl fmt::Display for Refusal {
+    fn fmt<W: fmt::Write>(&self, f: &mut fmt::Formatter<W>) -> fmt::Result {
+        let number = self.cause.number();
+        let place = self.place;
+        let depth = self.depth;
+        let sheet_place = self.sheet_place;
+        let cause = self.cause;
+        write!(f, "refused {number} {place} {depth} {sheet_place} {cause}")
     }
 }

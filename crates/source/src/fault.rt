@@ -3,10 +3,12 @@
 ghost use Rattle.std.specs.Prelude.{◌≡◌};
 ghost use Rattle.rules.specs.Causes.{is_missing as tells_missing};
 ghost use Rattle.rules.specs.Sources.{deeper as one_deeper};
-ghost use Rattle.causes.specs.Told.{cause_of};
+ghost use Rattle.rules.specs.Calls.{refusal_at};
+ghost use Rattle.causes.specs.Told.{cause_of, refusal_of};
 ghost use Rattle.source.specs.Answers.{fault_of};
 
 use causes::cause::Cause;
+use causes::refusal::Refusal;
 
 #[derive(Clone, Copy, PartialEq, Eq, Debug)]
 pub struct Found {
@@ -51,6 +53,33 @@ impl Fault {
         match self.cause {
             Cause::Missing => true,
             _ => false,
+        }
+    }
+}
+
+// A fault outside of a walk: there is no sheet whose place it could name.
+impl From<Fault> for Refusal {
+    ghost from_gives = { λ f r. refusal_of r ≡ refusal_at 0 (fault_of f) };
+
+    fn from(fault: Fault) -> Refusal {
+        Refusal {
+            cause: fault.cause,
+            place: fault.place,
+            depth: fault.depth,
+            sheet_place: 0,
+        }
+    }
+}
+
+// A text that a source could not read. What is refused there is no place of a sheet.
+impl From<Refusal> for Fault {
+    ghost from_gives = { λ r f. fault_of f ≡ record { cause = cause_of r.cause; place = r.place; depth = r.depth } };
+
+    fn from(refusal: Refusal) -> Fault {
+        Fault {
+            cause: refusal.cause,
+            place: refusal.place,
+            depth: refusal.depth,
         }
     }
 }
