@@ -3,7 +3,7 @@ use Rattle.std.proofs.Common.{◌≡◌, ℕ, ◌≤◌, Bool, true, false, cond
 use lib.ListN.{length-map}
 use Rattle.std.specs.Ordering.{is_eq, ordering_then}
 use Rattle.std.specs.List.{AllByRecursion}
-use Rattle.std.proofs.ByRecursion.{All-map}
+use Rattle.rules.proofs.Each.{each_mapped}
 use Rattle.std.proofs.lemmas.Bool.{leb-true, and_parts}
 use Rattle.rules.specs.Orders.{Bytes, lexical}
 use Rattle.rules.specs.Texts.{every}
@@ -31,7 +31,7 @@ same_path_less x y p e = sym (ap (λ o. ordering_then o (version_order x.version
 versions_ascend : (p : Bytes) (es : Book) → Ascending title module_order es → AllByRecursion (λ e. (title e).path ≡ p) es → AscendingVersions (map (λ e. (title e).version) es)
 versions_ascend p [] a h = tt
 versions_ascend p (e ∷ es) a h = (
-  All-map _ (λ e. (title e).version) es
+  each_mapped _ (λ e. (title e).version) es
       (all_from_members _ es (λ f k. same_path_less (title e) (title f) (h.0 ∙ sym (all_member (λ g. (title g).path ≡ p) es h.1 f k)) (all_member (λ g. module_order (title e) (title g) ≡ Less) es a.0 f k))),
   versions_ascend p es a.1 h.1,
 )
@@ -85,7 +85,7 @@ module _ (es : Book) (a : Ascending title module_order es) (w : well_written es 
   few_editions p = omega (arith, few, length-map (on p) (λ e. (title e).version), kept_length (λ g. same_path (title g) p) es)
 
   formed : (p : Bytes) → AllByRecursion (λ v. is_version v ≡ true) (editions es p)
-  formed p = All-map _ (λ e. (title e).version) (on p) (all_from_members _ (on p) (λ f k. (edition f (kept_was (λ g. same_path (title g) p) es f k).0).2))
+  formed p = each_mapped _ (λ e. (title e).version) (on p) (all_from_members _ (on p) (λ f k. (edition f (kept_was (λ g. same_path (title g) p) es f k).0).2))
 
   holds : (p v : Bytes) (rs : List ModuleVersion) → (book es).requirements (at p v) ≡ found rs → v ∈ editions es p
   holds p v rs q =

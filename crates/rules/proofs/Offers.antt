@@ -2,7 +2,7 @@
 use Rattle.std.proofs.Common.{◌≡◌, ℕ, ◌<◌, ◌≤◌, Bool, true, false, cond, ◌&&◌, ltb, List, [], ◌∷◌, ◌++◌, map, length, sym, refl, ap, ◌∙◌, subst, inl, inr, ⊎_elim, true≢false, arith}
 use Rattle.std.specs.Ordering.{is_lt, is_le, is_eq}
 use Rattle.std.specs.List.{AllByRecursion}
-use Rattle.std.proofs.ByRecursion.{All-map}
+use Rattle.rules.proofs.Each.{each_mapped}
 use Rattle.std.proofs.lemmas.List.{append_assoc}
 use Rattle.std.proofs.lemmas.Bool.{and_parts, and_from, or_cases, or_left, or_right, ltb-true, ltb-false, cases_Bool}
 use Rattle.rules.specs.Orders.{Bytes}
@@ -69,7 +69,7 @@ pub ceilings_ascend : (s : State) (p v : Bytes) (l : List ModuleVersion) → IsL
 ceilings_ascend s p v l (xs, e, a, apart) = subst (λ z. AscendingRows (ceilings p v z)) (sym e) (under xs a)
   where
     below : (x : ModuleVersion) (ys : List ModuleVersion) → AllByRecursion (λ y. Before x.path y.path) ys → AllByRecursion (λ y. Before (ceiling_of p v x).path y.path) (map (ceiling_of p v) ys)
-    below x ys h = All-map _ (ceiling_of p v) ys (all_from_members _ ys (λ y k. rw (ceiling_path p v x, ceiling_path p v y) (all_member _ ys h y k)))
+    below x ys h = each_mapped _ (ceiling_of p v) ys (all_from_members _ ys (λ y k. rw (ceiling_path p v x, ceiling_path p v y) (all_member _ ys h y k)))
 
     under : (ys : List ModuleVersion) → AscendingRows ys → AscendingRows (map (ceiling_of p v) ys)
     under [] h = tt

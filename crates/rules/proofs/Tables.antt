@@ -3,7 +3,7 @@ use Rattle.std.proofs.Common.{◌≡◌, ℕ, suc, ◌+◌, ◌≤◌, Bool, tru
 use Rattle.std.specs.Option.{option_map}
 use Rattle.std.specs.Ordering.{is_eq, ordering_reverse}
 use Rattle.std.specs.List.{AllByRecursion}
-use Rattle.std.proofs.ByRecursion.{All-weaker, all_kept_by, All-map}
+use Rattle.rules.proofs.Each.{each_weaker, each_filtered, each_mapped}
 use Rattle.std.proofs.lemmas.List.{append_assoc}
 use Rattle.std.proofs.lemmas.Bool.{not-true}
 use Rattle.rules.specs.Orders.{Total}
@@ -92,7 +92,7 @@ module _ {A K : Type 0} (key : A → K) (order : K → K → Ordering) where
   kept_ascending test (x ∷ xs) a = go (test x) (kept_ascending test xs a.1)
     where
       go : (b : Bool) → Ascending key order (filter test xs) → Ascending key order (cond b (x ∷ filter test xs) (filter test xs))
-      go true below = (all_kept_by test _ xs a.0, below)
+      go true below = (each_filtered _ test xs a.0, below)
       go false below = below
 
   pub back_ascending : (front back : List A) → Ascending key order (front ++ back) → Ascending key order back
@@ -488,7 +488,7 @@ module _ {A B K L : Type 0} (key : A → K) (order : K → K → Ordering) (name
   module _ (same : (a b : A) → order (key a) (key b) ≡ by (name (f a)) (name (f b))) where
     pub map_ascending : (t : List A) → Ascending key order t → Ascending name by (map f t)
     map_ascending [] a = tt
-    map_ascending (x ∷ xs) a = (All-map _ f xs (All-weaker _ _ (λ y h. sym (same x y) ∙ h) xs a.0), map_ascending xs a.1)
+    map_ascending (x ∷ xs) a = (each_mapped _ f xs (each_weaker _ _ (λ y h. sym (same x y) ∙ h) xs a.0), map_ascending xs a.1)
 
     pub map_ascending_back : (t : List A) → Ascending name by (map f t) → Ascending key order t
     map_ascending_back [] a = tt
