@@ -3,7 +3,8 @@ use Rattle.std.proofs.Common.{◌≡◌}
 use mathlib.Core.HLevel.{is_prop→PathP}
 use denote.Param.{number}
 use Rattle.ordered.specs.contracts.table.Table.{the_row as table_row}
-use Rattle.versions.specs.contracts.version.PlainVersion.{the_row as version_row}
+use Rattle.names.specs.contracts.formed.Plain.{the_row as plain_row}
+use Rattle.versions.specs.contracts.version.Versions.{the_row as kind_row}
 use Rattle.modules.specs.contracts.rows.Row.{the_row as row_row}
 use Rattle.modules.specs.contracts.exclusions.Exclusions as E
 use Rattle.modules.specs.contracts.requirements.Requirements as R
@@ -22,4 +23,4 @@ same_requirements a b e i =
 
 pub same_listing : (a b : Listing) → a.table ≡ b.table → a ≡ b
 same_listing a b e i =
-    (L.struct).make (e i, tt) (is_prop→PathP (λ j. L.the_ghost (e j, tt)) (λ j. L.the_propositions (table_row version_row (number 64)).coded version_row.coded (e j, tt)) ((L.struct).ghosts a) ((L.struct).ghosts b) i)
+    (L.struct).make (e i, tt) (is_prop→PathP (λ j. L.the_ghost (e j, tt)) (λ j. L.the_propositions (table_row (plain_row kind_row) (number 64)).coded (plain_row kind_row).coded kind_row.coded (e j, tt)) ((L.struct).ghosts a) ((L.struct).ghosts b) i)

@@ -1,6 +1,7 @@
 -- One row after another raised: the table that rows make. Assumes nothing.
-use Rattle.std.proofs.Common.{◌≡◌, ℕ, ◌+◌, ◌<◌, Bool, true, false, cond, leb, List, [], ◌∷◌, ◌++◌, length, get_or, take, drop, Some, None, Ok, Err, Option, Ordering, Less, Equal, Greater, sym, refl, ap, ◌∙◌, arith, take-append-drop}
+use Rattle.std.proofs.Common.{◌≡◌, ℕ, ◌+◌, ◌<◌, Bool, true, false, cond, leb, List, [], ◌∷◌, ◌++◌, length, get_or, take, drop, Some, None, Ok, Err, Option, Result, is_ok, ◌≢◌, Ordering, Less, Equal, Greater, sym, refl, ap, ◌∙◌, arith, take-append-drop}
 use Rattle.std.specs.Bool.{then_some}
+use Rattle.std.specs.Result.{result_eq}
 use Rattle.std.specs.Ordering.{is_lt, is_le}
 use Rattle.std.proofs.lemmas.List.{take_more}
 use Rattle.std.proofs.lemmas.Bool.{leb-true, lt-leb}
@@ -14,6 +15,7 @@ use Rattle.rules.proofs.Tables.{entered_all_push, entered_all_append, entered_al
 use Rattle.ordered.specs.Held.{fitting}
 use Rattle.ordered.proofs.Joining.{entered_present, entered_absent}
 use Rattle.modules.specs.Raised.{raise_told_by, raise_told}
+use Rattle.modules.specs.declared.requirements.raises.NotRaised.{NotRaised}
 use Rattle.modules.specs.declared.requirements.raises.NotRaised.TheVariants.{NotHigher, NoRoom}
 use Rattle.modules.proofs.Lifted.{entered_fresh}
 use Rattle.modules.proofs.Raises.{entered_met}
@@ -60,6 +62,12 @@ no_room_longer x t = go (row_of x.path t) refl
         by_version true r = let z : ◌≡◌ {A = ℕ} 0 1 = cc in absurd (omega arith)
         by_version false r = let z : ◌≡◌ {A = ℕ} 0 1 = cc in absurd (omega arith)
 
+pub is_no_room : (same_unit : Unit {0} → Unit {0} → Bool) (same : NotRaised → NotRaised → Bool) (r : Result (Unit {0}) NotRaised) → true ≡ result_eq same_unit same r (Err NoRoom) → same NotHigher NoRoom ≡ false
+    → r ≡ Err NoRoom
+is_no_room same_unit same (Ok u) e apart = cc
+is_no_room same_unit same (Err NotHigher) e apart = let z : true ≡ false = e ∙ apart in cc
+is_no_room same_unit same (Err NoRoom) e apart = refl
+
 -- the rows u are gone through to i, h is their table so far, and x is the row at i
 module _ (u h : List ModuleVersion) (i : ℕ) (x : ModuleVersion) (so_far : h ≡ table (take i u)) (in_list : i < length u) (read : x ≡ get_or u i x) where
   more : with_row x h ≡ table (take (i + 1) u)
@@ -67,11 +75,12 @@ module _ (u h : List ModuleVersion) (i : ℕ) (x : ModuleVersion) (so_far : h �
       ap (with_row x) so_far ∙ sym (entered_all_push path_of path_order higher [] (take i u) x)
       ∙ ap table (ap (λ y. take i u ++ y ∷ []) read ∙ sym (take_more u i x in_list))
 
-  pub raised_more : (zs : List ModuleVersion) → zs ≡ with_row x h → zs ≡ table (take (i + 1) u)
-  raised_more zs e = e ∙ more
-
-  pub raised_same : (zs : List ModuleVersion) → zs ≡ h → Err NotHigher ≡ raise_told h x → zs ≡ table (take (i + 1) u)
-  raised_same zs e q = e ∙ stays x h q ∙ more
+  -- by what was answered, if it was not that there is no room
+  pub raised_on : (r : Result (Unit {0}) NotRaised) (zs : List ModuleVersion) → r ≡ raise_told h x → (is_ok r ≡ true → zs ≡ with_row x h) → (is_ok r ≡ false → zs ≡ h) → r ≢ Err NoRoom
+      → zs ≡ table (take (i + 1) u)
+  raised_on (Ok u) zs e after refused ne = after refl ∙ more
+  raised_on (Err NotHigher) zs e after refused ne = refused refl ∙ stays x h e ∙ more
+  raised_on (Err NoRoom) zs e after refused ne = absurd (ne refl)
 
   pub raised_over : Err NoRoom ≡ raise_told h x → None ≡ fitting 256 (table u)
   raised_over q =

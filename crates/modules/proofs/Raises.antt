@@ -1,10 +1,11 @@
 -- A row set in a table where its path stands. Assumes nothing.
-use Rattle.std.proofs.Common.{◌≡◌, ℕ, zero, suc, ◌<◌, Bool, true, false, cond, ◌&&◌, ltb, leb, List, [], ◌∷◌, map, length, get_or, take, set, Some, None, Ok, Err, Result, Ordering, Less, Equal, Greater, sym, refl, ap, ◌∙◌, ap₂, arith, length-set}
+use Rattle.std.proofs.Common.{◌≡◌, ℕ, zero, suc, ◌<◌, Bool, true, false, cond, ◌&&◌, ltb, leb, List, [], ◌∷◌, map, length, get_or, take, set, Some, None, Ok, Err, Result, Ordering, Less, Equal, Greater, sym, refl, ap, ◌∙◌, ap₂, arith}
 use Rattle.std.specs.Ordering.{is_lt, is_le}
 use lib.Seq.{take-set-lt}
 use Rattle.std.proofs.lemmas.Bool.{leb-true, leb-false, ltb-true, ltb-false}
-use Rattle.std.proofs.lemmas.List.{take_all, get_or-take, get_or_default}
+use Rattle.std.proofs.lemmas.List.{get_or-take, get_or_default}
 use Rattle.std.specs.Option.{option_map}
+use Rattle.std.specs.Result.{result_ok}
 use Rattle.rules.specs.Names.{ModuleVersion}
 use Rattle.rules.specs.Paths.{path_order}
 use Rattle.rules.specs.Versions.{version_order}
@@ -77,17 +78,11 @@ not_lower Equal e = refl
 not_lower Greater e = refl
 
 module _ (t : List Row) (row : Row) (i : ℕ) (e : Ok i ≡ sought row_path plain_path_order row.path t) (h : i < length t) where
-  whole : take (length t) t ≡ t
-  whole = take_all (length t) t (omega arith)
-
-  at_whole : Ok i ≡ sought row_path plain_path_order row.path (take (length t) t)
-  at_whole = e ∙ ap (sought row_path plain_path_order row.path) (sym whole)
-
   -- the row of its path is the one at that place
   pub row_there : (d : Row) → row_of (row_names row).path (map row_names t) ≡ Some (row_names (get_or t i d))
   row_there d =
       sym (map_lookup row_path plain_path_order path_of path_order row_names row.path (plain_path_bytes row.path) (λ y. refl) t)
-      ∙ ap (option_map row_names) (ap (lookup row_path plain_path_order row.path) (sym whole) ∙ sym (found_looked row_path plain_path_order t (length t) row.path i at_whole h d))
+      ∙ ap (option_map row_names) (sym (found_looked row_path plain_path_order row.path t i (ap result_ok e) d))
 
   pub path_there : (d : Row) → (get_or t i d).path ≡ row.path
   path_there d =
@@ -97,14 +92,10 @@ module _ (t : List Row) (row : Row) (i : ℕ) (e : Ok i ≡ sought row_path plai
   -- written there it is entered, if it is higher
   pub row_set : is_le (version_order (row_names row).version (row_names (get_or t i row)).version) ≡ false → map row_names (set t i row) ≡ with_row (row_names row) (map row_names t)
   row_set up =
-      ap (map row_names) (sym (take_all (length t) (set t i row) (omega (arith, lengths)))
-      ∙ found_put row_path plain_path_order t (length t) row i at_whole h ∙ ap (entered row_path plain_path_order give row) whole)
+      ap (map row_names) (found_put row_path plain_path_order row t i (ap result_ok e))
       ∙ map_entered row_path plain_path_order path_of path_order row_names (λ a b. refl) give give (λ a b. refl) row t
       ∙ entered_met path_of path_order give higher (row_names row) (row_names (get_or t i row)) (map row_names t) (row_there row)
       (sym (ap (λ b. cond b (row_names (get_or t i row)) (row_names row)) (not_lower (version_order (row_names row).version (row_names (get_or t i row)).version) up)))
-    where
-      lengths : length (set t i row) ≡ length t
-      lengths = simp length-set
 
   -- it is refused if it is not higher
   pub told_upto : (d : Row) → true ≡ is_le (version_order (row_names row).version (row_names (get_or t i d)).version) → Err NotHigher ≡ raise_told (map row_names t) (row_names row)
@@ -121,10 +112,7 @@ module _ (t : List Row) (row : Row) (i : ℕ) (e : Err i ≡ sought row_path pla
   no_row : row_of (row_names row).path (map row_names t) ≡ None
   no_row =
       sym (map_lookup row_path plain_path_order path_of path_order row_names row.path (plain_path_bytes row.path) (λ y. refl) t)
-      ∙ ap (option_map row_names) (ap (lookup row_path plain_path_order row.path) (sym whole) ∙ sym (missed_looked row_path plain_path_order t (length t) row.path i (e ∙ ap (sought row_path plain_path_order row.path) (sym whole))))
-    where
-      whole : take (length t) t ≡ t
-      whole = take_all (length t) t (omega arith)
+      ∙ ap (option_map row_names) (sym (missed_looked row_path plain_path_order row.path t (ap result_ok e)))
 
   -- by what an insertion answers
   pub told_new : (r : Result (Unit {0}) NotInserted) → r ≡ admitted (row_of (row_names row).path (map row_names t)) (ltb (length (map row_names t)) 256)

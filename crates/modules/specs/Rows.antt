@@ -1,8 +1,7 @@
 -- The names that a row and a module version stand for, and their order. Assumes nothing.
 use Rattle.std.specs.declared.cmp.Ordering.{Ordering}
 use Rattle.rules.specs.Names.{ModuleVersion as Names, module_order}
-use Rattle.names.specs.Paths.{plain_path_bytes}
-use Rattle.names.specs.declared.path.PlainPath.{PlainPath}
+use Rattle.names.specs.Paths.{PlainPath, plain_path_bytes}
 use Rattle.versions.specs.Values.{plain_version_bytes}
 use Rattle.modules.specs.declared.rows.Row.{Row}
 use Rattle.modules.specs.declared.rows.ModuleVersion.{ModuleVersion}

@@ -1,18 +1,19 @@
 -- The same text is the same value. Assumes nothing.
-use Rattle.std.specs.Prelude.{◌≡◌, ℕ, List, length, take, slice_index}
+use Rattle.std.specs.Prelude.{◌≡◌, ℕ, true, List, length, take, slice_index}
 use Rattle.std.proofs.Common.{sym, ap, ◌∙◌, ⊎_elim, arith}
 use mathlib.Core.HLevel.{is_prop→PathP}
 use Rattle.std.proofs.lemmas.List.{ext_get_or, get_or-take, length-take-le}
 use Rattle.std.proofs.lemmas.Bool.{cases_lt}
+use Rattle.std.proofs.Math.Bool.{Bool-set}
 use Rattle.names.specs.Padding.{Padded}
 use Rattle.names.specs.Texts.{text_bytes}
 use Rattle.names.specs.contracts.text.Text.{struct, the_ghost, the_propositions}
-use Rattle.names.specs.contracts.path.PlainPath.{the_row as plain_row}
-use Rattle.names.specs.contracts.path.Path.{struct as path_struct, the_ghost as path_ghost, the_propositions as path_propositions}
 use Rattle.names.specs.declared.text.Text.{Text}
-use Rattle.names.specs.Paths.{plain_path_bytes, path_bytes}
-use Rattle.names.specs.declared.path.PlainPath.{PlainPath}
-use Rattle.names.specs.declared.path.Path.{Path}
+use Rattle.names.specs.Formed.{plain_bytes, formed_bytes}
+use Rattle.names.specs.Paths.{PlainPath, Path, plain_path_bytes, path_bytes}
+use Rattle.names.specs.declared.grammar.Grammar.{Ghosts}
+use Rattle.names.specs.declared.formed.Plain.{Plain}
+use Rattle.names.specs.declared.formed.Formed.{Formed}
 
 same_len : (n : ℕ) (a b : List ℕ) (i j : ℕ) → Padded n a i → Padded n b j → take i a ≡ take j b → i ≡ j
 same_len n a b i j p q e =
@@ -35,10 +36,16 @@ same_text p q e =
     let l : p.len ≡ q.len = same_len 48 p.bytes q.bytes p.len q.len p.padded q.padded e in
     λ i. struct.make (b i, (l i, tt)) (is_prop→PathP (λ j. the_ghost (b j, (l j, tt))) (λ j. the_propositions (b j, (l j, tt))) (struct.ghosts p) (struct.ghosts q) i)
 
+pub same_plain : {G : Type 0} (p q : Plain G) → plain_bytes p ≡ plain_bytes q → p ≡ q
+same_plain p q e i = record { text = same_text p.text q.text e i; of = p.of }
+
+pub same_formed : {G : Type 0} {g : Ghosts G} (f h : Formed G g) → formed_bytes f ≡ formed_bytes h → f ≡ h
+same_formed {G} {g} f h e =
+    let p : f.plain ≡ h.plain = same_plain f.plain h.plain e in
+    λ i. record { plain = p i; ok = is_prop→PathP (λ j. g.formed (plain_bytes (p j)) ≡ true) (λ j. Bool-set (g.formed (plain_bytes (p j))) true) f.ok h.ok i }
+
 pub same_plain_path : (p q : PlainPath) → plain_path_bytes p ≡ plain_path_bytes q → p ≡ q
-same_plain_path p q e i = record { text = same_text p.text q.text e i }
+same_plain_path = same_plain
 
 pub same_path : (p q : Path) → path_bytes p ≡ path_bytes q → p ≡ q
-same_path p q e =
-    let f : p.plain ≡ q.plain = same_plain_path p.plain q.plain e in
-    λ i. path_struct.make (f i, tt) (is_prop→PathP (λ j. path_ghost (f j, tt)) (λ j. path_propositions plain_row.coded (f j, tt)) (path_struct.ghosts p) (path_struct.ghosts q) i)
+same_path = same_formed

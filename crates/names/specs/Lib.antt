@@ -1,8 +1,10 @@
 pub mod Padding
 pub mod Texts
+pub mod Formed
 pub mod Paths
 pub mod Scans
 pub mod Pulled
 pub mod Canon
-pub mod PlainPathOrderedLemmas
-pub mod PathOrderedLemmas
+pub mod Compared
+pub mod FormedLemmas
+pub mod PathLemmas

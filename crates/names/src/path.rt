@@ -1,21 +1,14 @@
 // Paths. A plain path is a text that claims nothing and stands in the order of paths: what tables and slices hold. A path is one that is
 // well formed: 1 to 48 bytes, elements joined by slashes.
-ghost use Rattle.std.specs.Prelude.{◌≡◌, true};
-ghost use Rattle.rules.specs.Paths.{is_path};
-ghost use Rattle.names.specs.Texts.{text_bytes};
-
-use crate::text::Text;
+use crate::formed::{Formed, Plain};
 
 pub mod checks;
-pub mod orders;
+pub mod kind;
 
+// The kind of text that a path is.
 #[derive(Clone, Copy, PartialEq, Eq, Debug)]
-pub struct PlainPath {
-    pub text: Text,
-}
+pub struct Paths;
 
-#[derive(Clone, Copy, PartialEq, Eq, Debug)]
-pub struct Path {
-    plain: PlainPath,
-    ghost ok: { is_path (text_bytes plain.text) ≡ true },
-}
+pub type PlainPath = Plain<Paths>;
+
+pub type Path = Formed<Paths>;

@@ -1,4 +1,5 @@
 // A text of at most 48 bytes, held in place. It is written in one way, so that the same text is the same value.
+// Kept: an array and a length, since an `ArrayVec` is not to be copied and an `ArrayString` holds UTF-8 alone.
 ghost use Rattle.names.specs.Padding.{Padded};
 
 pub mod uses;

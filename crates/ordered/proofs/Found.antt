@@ -1,13 +1,22 @@
 -- What a look-up, an entry and a removal give, by the place of the key. Assumes nothing.
-use Rattle.std.proofs.Common.{◌≡◌, ℕ, ◌<◌, List, [], ◌∷◌, get_or, take, set, Some, None, Ok, Err, Option, Result, Ordering, Less, Equal, Greater, sym, refl, ap, ◌∙◌, MatchResult}
+use Rattle.std.proofs.Common.{◌≡◌, ℕ, ◌<◌, List, [], ◌∷◌, get_or, take, set, length, Some, None, Ok, Err, Option, Result, Ordering, Less, Equal, Greater, sym, refl, ap, ◌∙◌, MatchResult, arith}
 use lib.Seq.{take-set-lt}
 use Rattle.std.specs.List.{insert, remove}
-use Rattle.std.proofs.lemmas.List.{get_or-take}
+use Rattle.std.specs.Result.{result_ok}
+use Rattle.std.proofs.lemmas.List.{get_or-take, length-take}
 use Rattle.std.proofs.lemmas.Result.{MatchResult-at_ok, MatchResult-at_err}
 use Rattle.rules.specs.Tables as tables
 use Rattle.rules.specs.Tables.{keep}
 use Rattle.ordered.specs.Held.{give}
 use Rattle.ordered.specs.Places.{sought, sought_by}
+
+found : (r : Result ℕ ℕ) {i : ℕ} → Some i ≡ result_ok r → r ≡ Ok i
+found (Ok j) e = cc
+found (Err j) e = cc
+
+missed : (r : Result ℕ ℕ) → None ≡ result_ok r → (i : ℕ) × (r ≡ Err i)
+missed (Ok j) e = cc
+missed (Err j) e = (j, refl)
 
 module _ {A K : Type 0} (key : A → K) (order : K → K → Ordering) where
   -- the item there
@@ -55,31 +64,52 @@ module _ {A K : Type 0} (key : A → K) (order : K → K → Ordering) where
       go Greater (Ok i) h = ap (λ zs. y ∷ zs) h
       go Greater (Err i) h = ap (λ zs. y ∷ zs) h
 
--- The same of the first `count` places of an array xs, each by what the search answered.
+  within : (k : K) (xs : List A) → MatchResult (sought key order k xs) (λ i. i < length xs) (λ _. Unit {0})
+  within k [] = tt
+  within k (y ∷ ys) = go (order k (key y)) (sought key order k ys) (within k ys)
+    where
+      go : (o : Ordering) (r : Result ℕ ℕ) → MatchResult r (λ i. i < length ys) (λ _. Unit {0}) → MatchResult (sought_by key order o r) (λ i. i < length (y ∷ ys)) (λ _. Unit {0})
+      go Less r h = tt
+      go Equal r h = omega arith
+      go Greater (Ok i) h = omega (arith, h)
+      go Greater (Err i) h = tt
 
--- the search was by a key that is k
-pub by_key : {A K : Type 0} (key : A → K) (order : K → K → Ordering) (xs : List A) (r : Result ℕ ℕ) (k' k : K) → k' ≡ k → r ≡ sought key order k' xs → r ≡ sought key order k xs
-by_key key order xs r k' k p e = e ∙ ap (λ j. sought key order j xs) p
+-- The same by whether the search found the key.
+module _ {A K : Type 0} (key : A → K) (order : K → K → Ordering) (k : K) (t : List A) where
+  module _ (i : ℕ) (e : Some i ≡ result_ok (sought key order k t)) where
+    pub found_looked : (d : A) → Some (get_or t i d) ≡ tables.lookup key order k t
+    found_looked d = sym (MatchResult-at_ok _ _ i (found (sought key order k t) e) (looked key order k t) d)
 
-module _ {A K : Type 0} (key : A → K) (order : K → K → Ordering) (xs : List A) (count : ℕ) (k : K) (i : ℕ) where
-  module _ (e : Ok i ≡ sought key order k (take count xs)) where
-    pub found_looked : i < count → (d : A) → Some (get_or xs i d) ≡ tables.lookup key order k (take count xs)
-    found_looked h d =
-        ap Some (sym (get_or-take count xs i d h)) ∙ sym (MatchResult-at_ok _ _ i (sym e) (looked key order k (take count xs)) d)
+    pub found_gone : remove t i ≡ tables.removed key order k t
+    found_gone = sym (MatchResult-at_ok _ _ i (found (sought key order k t) e) (gone key order k t))
 
-    pub found_gone : remove (take count xs) i ≡ tables.removed key order k (take count xs)
-    found_gone = sym (MatchResult-at_ok _ _ i (sym e) (gone key order k (take count xs)))
+    found_within : i < length t
+    found_within = MatchResult-at_ok (λ j. j < length t) (λ _. Unit {0}) i (found (sought key order k t) e) (within key order k t)
 
-  module _ (e : Err i ≡ sought key order k (take count xs)) where
-    pub missed_looked : None ≡ tables.lookup key order k (take count xs)
-    missed_looked = sym (MatchResult-at_err _ _ i (sym e) (looked key order k (take count xs)))
+    -- of an array whose first n items are t
+    module _ (xs : List A) (n : ℕ) (first : take n xs ≡ t) where
+      pub in_front : i < n
+      in_front = omega (arith, found_within, ap length first, length-take n xs)
 
-    pub missed_gone : take count xs ≡ tables.removed key order k (take count xs)
-    missed_gone = sym (MatchResult-at_err _ _ i (sym e) (gone key order k (take count xs)))
+      pub found_read : (d : A) → Some (get_or xs i d) ≡ tables.lookup key order k t
+      found_read d = ap Some (sym (get_or-take n xs i d in_front) ∙ ap (λ zs. get_or zs i d) first) ∙ found_looked d
 
-module _ {A K : Type 0} (key : A → K) (order : K → K → Ordering) (xs : List A) (count : ℕ) (x : A) (i : ℕ) where
-  pub found_put : Ok i ≡ sought key order (key x) (take count xs) → i < count → take count (set xs i x) ≡ tables.entered key order give x (take count xs)
-  found_put e h = take-set-lt count xs i x h ∙ sym (MatchResult-at_ok _ _ i (sym e) (put key order give x (take count xs)))
+  module _ (e : None ≡ result_ok (sought key order k t)) where
+    pub missed_looked : None ≡ tables.lookup key order k t
+    missed_looked = let (i, at) = missed (sought key order k t) e in sym (MatchResult-at_err _ _ i at (looked key order k t))
 
-  pub missed_put : Err i ≡ sought key order (key x) (take count xs) → insert (take count xs) i x ≡ tables.entered key order keep x (take count xs)
-  missed_put e = sym (MatchResult-at_err _ _ i (sym e) (put key order keep x (take count xs)))
+    pub missed_gone : t ≡ tables.removed key order k t
+    missed_gone = let (i, at) = missed (sought key order k t) e in sym (MatchResult-at_err _ _ i at (gone key order k t))
+
+module _ {A K : Type 0} (key : A → K) (order : K → K → Ordering) (x : A) (t : List A) (i : ℕ) where
+  module _ (e : Some i ≡ result_ok (sought key order (key x) t)) where
+    pub found_put : set t i x ≡ tables.entered key order give x t
+    found_put = sym (MatchResult-at_ok _ _ i (found (sought key order (key x) t) e) (put key order give x t))
+
+    -- in an array whose first n items are t
+    pub found_written : (xs : List A) (n : ℕ) → take n xs ≡ t → take n (set xs i x) ≡ tables.entered key order give x t
+    found_written xs n first =
+        take-set-lt n xs i x (in_front key order (key x) t i e xs n first) ∙ ap (λ zs. set zs i x) first ∙ found_put
+
+  pub missed_put : Err i ≡ sought key order (key x) t → insert t i x ≡ tables.entered key order keep x t
+  missed_put e = sym (MatchResult-at_err _ _ i (sym e) (put key order keep x t))

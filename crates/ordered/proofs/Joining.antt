@@ -1,12 +1,24 @@
 -- One item after another entered into a table of at most n items. Assumes nothing.
-use Rattle.std.proofs.Common.{◌≡◌, ℕ, suc, ◌+◌, ◌<◌, ◌≤◌, Bool, true, false, ltb, List, [], ◌∷◌, ◌++◌, length, get_or, take, drop, Some, None, Err, Option, Ordering, Less, Equal, Greater, sym, refl, ap, ◌∙◌, arith, take-append-drop}
+use Rattle.std.proofs.Common.{◌≡◌, ℕ, suc, ◌+◌, ◌<◌, ◌≤◌, Bool, true, false, ltb, List, [], ◌∷◌, ◌++◌, length, get_or, take, drop, Some, None, Ok, Err, Option, Result, is_ok, ◌≢◌, Ordering, Less, Equal, Greater, sym, refl, ap, ◌∙◌, arith, take-append-drop}
 use Rattle.std.specs.Bool.{then_some}
+use Rattle.std.specs.Result.{result_eq}
 use Rattle.std.proofs.lemmas.List.{take_more, take_all}
 use Rattle.std.proofs.lemmas.Bool.{ltb-false, le-leb, lt-leb}
 use Rattle.rules.specs.Tables.{keep, lookup, lookup_by, entered, entered_by, joined}
 use Rattle.rules.proofs.Tables.{entered_all_push, entered_all_append, entered_all_least}
+use Rattle.ordered.specs.declared.table.NotInserted.{NotInserted}
 use Rattle.ordered.specs.declared.table.NotInserted.TheVariants.{Present, Full}
 use Rattle.ordered.specs.Held.{admitted, fitting}
+
+-- an answer compared with a refusal, and with that there is no room
+pub not_refused : {E : Type 0} (same_unit : Unit {0} → Unit {0} → Bool) (same : E → E → Bool) (x : E) (r : Result (Unit {0}) E) → false ≡ result_eq same_unit same r (Err x) → same x x ≡ true → r ≢ Err x
+not_refused same_unit same x r e alike q = let z : false ≡ true = e ∙ ap (λ p. result_eq same_unit same p (Err x)) q ∙ alike in cc
+
+pub is_full : (same_unit : Unit {0} → Unit {0} → Bool) (same : NotInserted → NotInserted → Bool) (r : Result (Unit {0}) NotInserted) → true ≡ result_eq same_unit same r (Err Full) → same Present Full ≡ false
+    → r ≡ Err Full
+is_full same_unit same (Ok u) e apart = cc
+is_full same_unit same (Err Present) e apart = let z : true ≡ false = e ∙ apart in cc
+is_full same_unit same (Err Full) e apart = refl
 
 module _ {A K : Type 0} (key : A → K) (order : K → K → Ordering) where
   -- where an item of the key is there, nothing changes
@@ -61,6 +73,13 @@ module _ {A K : Type 0} (key : A → K) (order : K → K → Ordering) where
 
       pub joined_same : (zs : List A) (room : Bool) → zs ≡ h → Err Present ≡ admitted (lookup key order (key x) h) room → zs ≡ joined key order t (take (i + 1) u)
       joined_same zs room e p = e ∙ present_same x h room p ∙ more
+
+      -- by what the insertion answered, if it was not that there is no room
+      pub joined_on : (r : Result (Unit {0}) NotInserted) (zs : List A) (room : Bool) → r ≡ admitted (lookup key order (key x) h) room → (is_ok r ≡ true → zs ≡ entered key order keep x h)
+          → (is_ok r ≡ false → zs ≡ h) → r ≢ Err Full → zs ≡ joined key order t (take (i + 1) u)
+      joined_on (Ok u) zs room e after refused ne = joined_more zs (after refl)
+      joined_on (Err Present) zs room e after refused ne = joined_same zs room (refused refl) e
+      joined_on (Err Full) zs room e after refused ne = absurd (ne refl)
 
       pub joined_over : (n : ℕ) → Err Full ≡ admitted (lookup key order (key x) h) (ltb (length h) n) → None ≡ fitting n (joined key order t u)
       joined_over n e =

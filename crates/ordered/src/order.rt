@@ -4,25 +4,23 @@ ghost use Rattle.std.specs.declared.cmp.Ordering.{Ordering};
 ghost use Rattle.std.specs.Ordering.{ordering_reverse};
 ghost use Rattle.rules.specs.Orders.{AtOrBelow};
 
-use std::cmp::Ordering;
-
-pub trait Ordered: Sized {
-    // How the first stands to the second.
+pub trait Ordered: Ord {
+    // How the first stands to the second, in the words of the rules.
     ghost order: { Self → Self → Ordering };
 
-    fn compare(&self, other: &Self) -> Ordering
-        ensures { result ≡ order self.now other.now };
+    // And so `cmp` compares them.
+    ghost compared: { (x y : Self) → Self.cmp x y ≡ order x y };
 
     // Of two things one is at or below the other.
-    ghost total: { (x y : Self) → AtOrBelow order x y ⊎ AtOrBelow order y x };
+    ghost total: { (x y : Self) → AtOrBelow Self.cmp x y ⊎ AtOrBelow Self.cmp y x };
 
     // Two that are each at or below the other are the same.
-    ghost antisymmetric: { (x y : Self) → AtOrBelow order x y → AtOrBelow order y x → x ≡ y };
+    ghost antisymmetric: { (x y : Self) → AtOrBelow Self.cmp x y → AtOrBelow Self.cmp y x → x ≡ y };
 
-    ghost transitive: { (x y z : Self) → AtOrBelow order x y → AtOrBelow order y z → AtOrBelow order x z };
+    ghost transitive: { (x y z : Self) → AtOrBelow Self.cmp x y → AtOrBelow Self.cmp y z → AtOrBelow Self.cmp x z };
 
     // The answer for two is told by the answer for the two the other way round.
-    ghost mirrored: { (x y : Self) → order y x ≡ ordering_reverse (order x y) };
+    ghost mirrored: { (x y : Self) → Self.cmp y x ≡ ordering_reverse (Self.cmp x y) };
 }
 
 // A thing that stands in a table by a key of the type K.

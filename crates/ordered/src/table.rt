@@ -1,16 +1,26 @@
-// A table of at most N items: the first `count` places of an array. What stands in the places behind them says nothing.
-ghost use Rattle.std.specs.Prelude.{◌≡◌, ◌≤◌, length};
+// A table of at most N items. It is seen as the list of them: they stand in the first `count` places of an array, and what stands in the places
+// behind them says nothing.
+// Kept: an array and a count, since an `ArrayVec` wants items that have a default.
+use std::marker::Model;
 
 pub mod edits;
 pub mod makes;
-mod places;
 pub mod reads;
 
 #[derive(Drop)]
 pub struct Table<T, const N: usize> {
     items: [T; N],
     count: usize,
-    ghost fits: { (length items ≡ N) × (count ≤ N) },
+}
+
+impl<T, const N: usize> Model for Table<T, N> {
+    ghost use Rattle.std.specs.Prelude.{◌≡◌, ◌≤◌, List, length, take};
+
+    ghost Value = { List T };
+
+    ghost view = { λ t. take t.count t.items };
+
+    ghost invariant = { λ t. (length t.items ≡ N) × (t.count ≤ N) };
 }
 
 // Why an item was not inserted: one with its key is there, or else there is no room.

@@ -1,3 +1,4 @@
+pub mod Tested
 pub mod Cuts
 pub mod Numbers
 pub mod Spelling

@@ -41,10 +41,8 @@ as_many n (d ∷ ds) (e ∷ es) t u l =
     by_digit (n * 10 + (d - 48)) (n * 10 + (e - 48)) d e ds es ts us long (λ q. omega arith) (λ q. omega arith) (λ q. omega arith) (as_many (n * 10 + (d - 48)) ds es ts us long)
 
 module _ (a b : Bytes) (t : is_number a ≡ true) (u : is_number b ≡ true) where
-  pub numbers_as_long : length a ≡ length b → number_order (value 0 a) (value 0 b) ≡ dictionary a b
-  numbers_as_long l = as_many 0 a b (number_digits a t) (number_digits b u) l
-
-  pub numbers_by_length : (o : Ordering) → (o ≡ Equal → ⊥) → MatchOrdering o (length a < length b) (length a ≡ length b) (length b < length a) → o ≡ number_order (value 0 a) (value 0 b)
-  numbers_by_length Less n h = sym (below (value 0 a) (value 0 b) (shorter_less a b t u h))
-  numbers_by_length Equal n h = absurd (n refl)
-  numbers_by_length Greater n h = sym (above (value 0 a) (value 0 b) (shorter_less b a u t h))
+  -- the longer is the greater, and of as many digits the first that differ decide
+  pub numbers_ordered : (o p : Ordering) → MatchOrdering o (length a < length b) (length a ≡ length b) (length b < length a) → p ≡ dictionary a b → ordering_then o p ≡ number_order (value 0 a) (value 0 b)
+  numbers_ordered Less p h e = sym (below (value 0 a) (value 0 b) (shorter_less a b t u h))
+  numbers_ordered Equal p h e = e ∙ sym (as_many 0 a b (number_digits a t) (number_digits b u) h)
+  numbers_ordered Greater p h e = sym (above (value 0 a) (value 0 b) (shorter_less b a u t h))

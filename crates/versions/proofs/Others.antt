@@ -1,5 +1,5 @@
 -- Texts that need not be versions: how they stand, and which is newer. Assumes nothing.
-use Rattle.std.proofs.Common.{◌≡◌, true, false, Some, None, Option, Ordering, Less, Equal, Greater, sym, refl, ap, ◌∙◌, ap₂}
+use Rattle.std.proofs.Common.{◌≡◌, true, false, Some, None, Option, Greater, sym, refl, ap, ◌∙◌, ap₂}
 use Rattle.std.specs.Ordering.{is_lt, ordering_reverse}
 use Rattle.rules.specs.Orders.{Bytes, dictionary, none_first}
 use Rattle.rules.specs.Versions.{Parts, is_version, parts, parted, precedence, version_order, is_newer}
@@ -33,8 +33,3 @@ newer_than_other a b f t = ap₂ (λ x y. is_lt (none_first precedence x y)) (pa
 
 pub newer_version : (a b : Bytes) → is_version a ≡ true → is_version b ≡ true → is_newer b a ≡ is_lt (version_order a b)
 newer_version a b t u = ap₂ (λ x y. is_lt (none_first precedence x y)) (parted_version a t) (parted_version b u) ∙ ap is_lt (sym (precede a b t u))
-
-pub not_less : (o : Ordering) → (o ≡ Less → ⊥) → is_lt o ≡ false
-not_less Less n = absurd (n refl)
-not_less Equal n = refl
-not_less Greater n = refl

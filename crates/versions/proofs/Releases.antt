@@ -1,11 +1,10 @@
 -- Texts of numbers and identifiers, from the first number on. Assumes nothing.
-use Rattle.std.proofs.Common.{◌≡◌, ℕ, suc, ◌-◌, ◌<◌, ◌≤◌, Bool, true, false, ◌&&◌, eqb, List, [], ◌∷◌, length, get_or, take, drop, sym, refl, ap, ◌∙◌, ap₂, arith}
-use Rattle.std.proofs.lemmas.List.{take_rest}
-use Rattle.std.proofs.lemmas.Bool.{and_left, eq-eqb, le-leb}
+use Rattle.std.proofs.Common.{◌≡◌, ℕ, suc, Bool, true, false, ◌&&◌, eqb, List, ◌∷◌, length, refl, ap, ◌∙◌, ap₂, arith}
+use Rattle.std.proofs.lemmas.Bool.{and_left}
 use Rattle.std.proofs.lemmas.Bool.Decides.{nat_tests}
 use Rattle.rules.specs.Orders.{Bytes}
 use Rattle.rules.specs.Texts.{dot, every, pieces}
-use Rattle.rules.specs.Versions.{is_number, is_identifier, before_dash, behind_dash, is_release, is_version}
+use Rattle.rules.specs.Versions.{is_number, is_identifier, before_dash, behind_dash}
 use Rattle.rules.proofs.Precedence.{pieces_some}
 use Rattle.versions.specs.declared.pieces.Part.TheVariants.{Numbers, Identifiers}
 use Rattle.versions.specs.declared.pieces.End.{End}
@@ -78,9 +77,3 @@ module _ (text p : Bytes) (e : End) (rest : Bytes) (h : Begins Identifiers text 
       go Dash q = identifier_told t Dash q
       go Last q = identifier_told t Last q
       go Dot q = absurd (other q)
-
--- a text of few bytes that begins with v
-pub version_release : (text : Bytes) → 0 < length text → get_or text 0 0 ≡ 118 → length text ≤ 40 → is_version text ≡ is_release (take (length text - 1) (drop 1 text))
-version_release [] some v l = absurd (omega arith)
-version_release (b ∷ bs) some v l =
-    ap₂ (λ t u. t && (u && is_release bs)) (eq-eqb b 118 v) (le-leb (length (b ∷ bs)) 40 l) ∙ ap is_release (sym (take_rest (b ∷ bs) 1))

@@ -1,13 +1,11 @@
 -- The pieces of a text, from the first of them and what ends it. Assumes nothing.
-use Rattle.std.proofs.Common.{◌≡◌, ℕ, ◌+◌, ◌<◌, Bool, true, not, eqb, List, [], ◌∷◌, ◌++◌, length, refl, ap, ◌∙◌, arith}
-use Rattle.std.proofs.lemmas.List.{length-append}
+use Rattle.std.proofs.Common.{◌≡◌, ℕ, Bool, true, not, eqb, List, [], ◌∷◌, ◌++◌, refl, ap, ◌∙◌, arith}
 use Rattle.std.proofs.lemmas.Bool.{and_from, cond-false, not-true}
 use Rattle.std.proofs.lemmas.Bool.Decides.{nat_tests}
 use Rattle.rules.specs.Orders.{Bytes}
 use Rattle.rules.specs.Texts.{dash, dot, every, begun, pieces}
 use Rattle.rules.specs.Versions.{before_dash, behind_dash}
 use Rattle.rules.proofs.Precedence.{every_head}
-use Rattle.versions.specs.declared.pieces.Part.{Part}
 use Rattle.versions.specs.declared.pieces.Part.TheVariants.{Numbers, Identifiers}
 use Rattle.versions.specs.declared.pieces.End.{End}
 use Rattle.versions.specs.declared.pieces.End.TheVariants.{Dot, Dash, Last}
@@ -92,12 +90,3 @@ module _ (text p : Bytes) (e : End) (rest : Bytes) where
       behind Dash so = absurd so
       behind Last so = ap (pieces dot) so
       behind Dot so = refl
-
-  -- what is left is shorter, unless nothing is
-  pub shorter : (part : Part) → Begins part text p e rest → (e ≡ Last → ⊥) → length rest < length text
-  shorter part h n = go e refl (ap length h.whole ∙ length-append p (ending e rest))
-    where
-      go : (f : End) → e ≡ f → length text ≡ length p + length (ending f rest) → length rest < length text
-      go Dash q l = omega arith
-      go Last q l = absurd (n q)
-      go Dot q l = omega arith

@@ -1,7 +1,5 @@
 pub mod Cuts
-pub mod Kinds
 pub mod Releases
 pub mod Values
 pub mod Told
-pub mod PlainVersionOrderedLemmas
-pub mod VersionOrderedLemmas
+pub mod VersionLemmas

@@ -2,67 +2,54 @@
 // letters, digits and dashes, not all digits. Numbers stand by their value, below all words; words stand by their bytes.
 ghost use Rattle.std.specs.Prelude.{◌≡◌, true};
 ghost use Rattle.rules.specs.Orders.{number_order};
-ghost use Rattle.rules.specs.Versions.{is_number, is_identifier, value, identifier, identifier_order};
-ghost use Rattle.versions.specs.Kinds.{byte_kind, spelt, kind_of};
+ghost use Rattle.std.specs.List.{list_all};
+ghost use Rattle.rules.specs.Texts.{digit};
+ghost use Rattle.rules.specs.Versions.{identifier_byte, is_number, is_identifier, value, identifier, identifier_order};
 
 use std::cmp::Ordering;
 
-#[derive(Clone, Copy)]
-enum Kind {
-    Number,
-    Word,
-    Other,
-}
-
-fn kind_of_byte(b: char) -> Kind
-    ensures { result ≡ byte_kind b }
+fn is_digit(b: u8) -> bool
+    ensures { result ≡ digit b }
 {
-    match b {
-        '0'..='9' => Kind::Number,
-        'a'..='z' | 'A'..='Z' | '-' => Kind::Word,
-        _ => Kind::Other,
-    }
+    b.is_ascii_digit()
 }
 
-// The kind of a piece by its bytes alone.
-fn spelling(piece: &[u8]) -> Kind
-    ensures { result ≡ spelt piece.now }
+fn is_identifier_byte(b: u8) -> bool
+    ensures { result ≡ identifier_byte b }
 {
-    let mut kind = Kind::Number;
-    for b in piece {
-        match kind_of_byte(*b as char) {
-            Kind::Number => {}
-            Kind::Word => kind = Kind::Word,
-            Kind::Other => return Kind::Other,
-        }
-    }
-    kind
+    b.is_ascii_alphanumeric() || b == b'-'
 }
 
-fn kind_of(piece: &[u8]) -> Kind
-    ensures { result ≡ kind_of piece.now }
+fn are_digits(piece: &[u8]) -> bool
+    ensures { result ≡ list_all digit piece.now }
 {
-    match (spelling(piece), piece) {
-        (Kind::Number, [] | [b'0', _, ..]) => Kind::Other,
-        (kind, _) => kind,
-    }
+    piece.iter().all(|b| is_digit(*b))
 }
 
+fn are_identifier_bytes(piece: &[u8]) -> bool
+    ensures { result ≡ list_all identifier_byte piece.now }
+{
+    piece.iter().all(|b| is_identifier_byte(*b))
+}
+
+#[tactic(auto, using(crate::proofs::Tested::all_every))]
 pub fn is_number(piece: &[u8]) -> bool
     ensures { result ≡ is_number piece.now }
 {
-    match kind_of(piece) {
-        Kind::Number => true,
-        Kind::Word | Kind::Other => false,
+    match piece {
+        [] | [b'0', _, ..] => false,
+        _ => are_digits(piece),
     }
 }
 
+#[tactic(auto, using(crate::proofs::Tested::all_every))]
 pub fn is_identifier(piece: &[u8]) -> bool
     ensures { result ≡ is_identifier piece.now }
 {
-    match kind_of(piece) {
-        Kind::Number | Kind::Word => true,
-        Kind::Other => false,
+    if are_digits(piece) {
+        is_number(piece)
+    } else {
+        are_identifier_bytes(piece)
     }
 }
 
@@ -71,10 +58,7 @@ fn compare_numbers(a: &[u8], b: &[u8]) -> Ordering
     requires { (is_number a.now ≡ true) × (is_number b.now ≡ true) }
     ensures { result ≡ number_order (value 0 a.now) (value 0 b.now) }
 {
-    match a.len().cmp(&b.len()) {
-        Ordering::Equal => a.cmp(b),
-        unequal => unequal,
-    }
+    a.len().cmp(&b.len()).then(a.cmp(b))
 }
 
 pub(crate) fn compare_pieces(a: &[u8], b: &[u8]) -> Ordering

@@ -18,6 +18,7 @@ pub(crate) enum End {
     Dot,
 }
 
+// Kept: what follows stands beside the end and not in it, since ends are compared by their kind alone.
 #[derive(Clone, Copy)]
 pub(crate) struct Piece<'a> {
     pub text: &'a [u8],

@@ -115,8 +115,5 @@ pub fn newer<'a>(a: &'a [u8], b: &'a [u8]) -> &'a [u8]
     if !is_version(a) {
         return b;
     }
-    match precedence(a, b) {
-        Ordering::Less => b,
-        _ => a,
-    }
+    if precedence(a, b).is_lt() { b } else { a }
 }

@@ -1,21 +1,13 @@
 // Versions as values. A plain version is a text that claims nothing and stands in the order of versions: what tables and slices hold. A
 // version is one that is well formed.
-ghost use Rattle.std.specs.Prelude.{◌≡◌, true};
-ghost use Rattle.rules.specs.Versions.{is_version};
-ghost use Rattle.names.specs.Texts.{text_bytes};
+use names::formed::{Formed, Plain};
 
-use names::text::Text;
+pub mod kind;
 
-pub mod checks;
-pub mod orders;
-
+// The kind of text that a version is.
 #[derive(Clone, Copy, PartialEq, Eq, Debug)]
-pub struct PlainVersion {
-    pub text: Text,
-}
+pub struct Versions;
 
-#[derive(Clone, Copy, PartialEq, Eq, Debug)]
-pub struct Version {
-    plain: PlainVersion,
-    ghost ok: { is_version (text_bytes plain.text) ≡ true },
-}
+pub type PlainVersion = Plain<Versions>;
+
+pub type Version = Formed<Versions>;

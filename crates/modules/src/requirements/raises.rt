@@ -2,7 +2,7 @@
 ghost use Rattle.std.specs.Prelude.{◌≡◌, ◌<◌, true, false, map, length, set, is_ok, slice_index_or, slice_set};
 ghost use Rattle.std.specs.Option.{option_map};
 ghost use Rattle.std.specs.Ordering.{is_le};
-ghost use Rattle.ordered.specs.Held.{held, fitting};
+ghost use Rattle.ordered.specs.Held.{fitting};
 ghost use Rattle.rules.specs.Rows.{with_row, table};
 ghost use Rattle.rules.specs.Versions.{version_order};
 ghost use Rattle.modules.specs.Raised.{raise_told};
@@ -12,10 +12,8 @@ ghost use Rattle.modules.specs.Tables.{requirement_names};
 use super::Requirements;
 use crate::rows::Row;
 use names::path::PlainPath;
-use ordered::order::Ordered;
 use ordered::slices::search;
 use ordered::table::Table;
-use std::cmp::Ordering;
 use versions::version::PlainVersion;
 
 // Why a row was not raised: it is that high already, or it is new and there is no room.
@@ -37,18 +35,15 @@ impl Row {
     fn is_upto(&self, other: &Row) -> bool
         ensures value { result ≡ is_le (version_order (row_names self.now).version (row_names other.now).version) }
     {
-        match self.version.compare(&other.version) {
-            Ordering::Greater => false,
-            _ => true,
-        }
+        self.version <= other.version
     }
 }
 
 impl Requirements {
     // Sets the row at a place, which is of the same path: it is changed in a copy of the rows, and the table then written whole.
     fn lift(&mut self, at: usize, row: Row)
-        requires { (at < length (held self.old.table)) × ((slice_index_or (held self.old.table) at row).path ≡ row.path) }
-        ensures after { held self.new.table ≡ slice_set (held self.old.table) at row }
+        requires { (at < length self.old.table) × ((slice_index_or self.old.table at row).path ≡ row.path) }
+        ensures after { self.new.table ≡ slice_set self.old.table at row }
     {
         let mut rows = self.table.items();
         rows[at].lift(row.version);
@@ -62,19 +57,14 @@ impl Requirements {
         ensures refused { is_ok result ≡ false → self.new ≡ self.old }
     {
         let rows = self.table.as_slice();
-        match search(rows, &row.path) {
-            Ok(at) => {
-                if row.is_upto(&rows[at]) {
-                    return Err(NotRaised::NotHigher);
-                }
-                self.lift(at, row);
-                Ok(())
-            }
-            Err(_) => match self.add(row) {
-                Ok(()) => Ok(()),
-                Err(_) => Err(NotRaised::NoRoom),
-            },
+        let Ok(at) = search(rows, &row.path) else {
+            return self.add(row).map_err(|_| NotRaised::NoRoom);
+        };
+        if row.is_upto(&rows[at]) {
+            return Err(NotRaised::NotHigher);
         }
+        self.lift(at, row);
+        Ok(())
     }
 
     // The table of these, of each path the highest, unless that is more than 256.
@@ -83,10 +73,8 @@ impl Requirements {
     {
         let mut all = Requirements::new();
         for row in rows {
-            match all.raise(*row) {
-                Ok(()) => {}
-                Err(NotRaised::NotHigher) => {}
-                Err(NotRaised::NoRoom) => return None,
+            if all.raise(*row) == Err(NotRaised::NoRoom) {
+                return None;
             }
         }
         Some(all)

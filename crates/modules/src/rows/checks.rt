@@ -1,5 +1,5 @@
 // Which rows are module versions.
-ghost use Rattle.std.specs.Prelude.{◌≡◌, ◌&&◌, length, codes, nat_le};
+ghost use Rattle.std.specs.Prelude.{◌≡◌, ◌&&◌, true, length, codes, nat_le};
 ghost use Rattle.rules.specs.Names.{is_module_version};
 ghost use Rattle.std.specs.Option.{option_map};
 ghost use Rattle.std.specs.Bool.{then_some};
@@ -37,6 +37,14 @@ impl Row {
         let version = self.version.check()?;
         Some(ModuleVersion { path, version })
     }
+
+    // The module version that this is, of two texts that are known to be well formed.
+    pub fn checked(&self) -> ModuleVersion
+        requires { is_module_version (row_names self.now) ≡ true }
+        ensures { names_of result ≡ row_names self.now }
+    {
+        self.check().unwrap()
+    }
 }
 
 impl ModuleVersion {
@@ -56,5 +64,23 @@ impl ModuleVersion {
             path: self.path.plain(),
             version: self.version.plain(),
         }
+    }
+}
+
+// `_` at v0.0.0, which stands where there is none.
+impl Default for Row {
+    ghost is_default = { λ r. row_names r ≡ record { path = codes "_"; version = codes "v0.0.0" } };
+
+    fn default() -> Row {
+        Row::blank()
+    }
+}
+
+// The same as a module version.
+impl Default for ModuleVersion {
+    ghost is_default = { λ m. names_of m ≡ record { path = codes "_"; version = codes "v0.0.0" } };
+
+    fn default() -> ModuleVersion {
+        ModuleVersion::check(b"_", b"v0.0.0").unwrap()
     }
 }

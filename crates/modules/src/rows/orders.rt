@@ -1,29 +1,39 @@
-// The order of rows: by path, then by version. As a requirement a row stands by its path alone.
-ghost use Rattle.modules.specs.Rows.{row_order, row_path};
-ghost use Rattle.modules.specs.RowOrderedLemmas.{laws};
+// The order that rows and module versions stand in obeys the laws. As a requirement a row stands by its path alone.
+ghost use Rattle.std.specs.Prelude.{refl};
+ghost use Rattle.modules.specs.Rows.{row_order, row_path, module_version_order};
+ghost use Rattle.modules.specs.RowOrderedLemmas;
+ghost use Rattle.modules.specs.ModuleVersionOrderedLemmas;
 
-use super::Row;
+use super::{ModuleVersion, Row};
 use names::path::PlainPath;
 use ordered::order::{Keyed, Ordered};
-use std::cmp::Ordering;
 
 impl Ordered for Row {
     ghost order = { row_order };
 
-    ghost total = { laws.total };
+    ghost compared = { λ x y. refl };
 
-    ghost antisymmetric = { laws.antisymmetric };
+    ghost total = { (RowOrderedLemmas.laws).total };
 
-    ghost transitive = { laws.transitive };
+    ghost antisymmetric = { (RowOrderedLemmas.laws).antisymmetric };
 
-    ghost mirrored = { laws.mirrored };
+    ghost transitive = { (RowOrderedLemmas.laws).transitive };
 
-    fn compare(&self, other: &Row) -> Ordering {
-        match self.path.compare(&other.path) {
-            Ordering::Equal => self.version.compare(&other.version),
-            unequal => unequal,
-        }
-    }
+    ghost mirrored = { (RowOrderedLemmas.laws).mirrored };
+}
+
+impl Ordered for ModuleVersion {
+    ghost order = { module_version_order };
+
+    ghost compared = { λ x y. refl };
+
+    ghost total = { (ModuleVersionOrderedLemmas.laws).total };
+
+    ghost antisymmetric = { (ModuleVersionOrderedLemmas.laws).antisymmetric };
+
+    ghost transitive = { (ModuleVersionOrderedLemmas.laws).transitive };
+
+    ghost mirrored = { (ModuleVersionOrderedLemmas.laws).mirrored };
 }
 
 impl Keyed<PlainPath> for Row {

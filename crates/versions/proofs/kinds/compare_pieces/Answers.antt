@@ -1,26 +1,8 @@
 use Rattle.std.proofs.Common.{sym, ◌∙◌, ap₂}
 use Rattle.rules.specs.Versions.{identifier_order}
 use Rattle.names.proofs.Words.{cmp_dictionary}
-use Rattle.versions.proofs.Spelling.{as_number, as_word}
+use Rattle.versions.proofs.Spelling.{as_word}
 use Rattle.versions.proofs.kinds.compare_pieces.Goals as goal
-
-pub returns-in-true-true : goal.returns-in-true-true
-returns-in-true-true c =
-    let a = as_number c.args.a.now (sym c.in-true-true.ensures) in
-    let b = as_number c.args.b.now (sym c.in-true-true.ensures') in
-    c.compare_numbers.ensures ∙ sym (ap₂ identifier_order a b)
-
-pub returns-in-true-false : goal.returns-in-true-false
-returns-in-true-false c =
-    let a = as_number c.args.a.now (sym c.in-true-false.ensures) in
-    let b = as_word c.args.b.now c.requires.1 (sym c.in-true-false.ensures') in
-    sym (ap₂ identifier_order a b)
-
-pub returns-in-false-true : goal.returns-in-false-true
-returns-in-false-true c =
-    let a = as_word c.args.a.now c.requires.0 (sym c.in-false-true.ensures) in
-    let b = as_number c.args.b.now (sym c.in-false-true.ensures') in
-    sym (ap₂ identifier_order a b)
 
 pub returns-in-false-false : goal.returns-in-false-false
 returns-in-false-false c =

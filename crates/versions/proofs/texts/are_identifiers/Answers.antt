@@ -1,7 +1,4 @@
-use Rattle.std.proofs.Common.{◌≡◌, sym, ◌∙◌, arith}
-use Rattle.versions.specs.declared.pieces.Part.TheVariants.{Identifiers}
-use Rattle.versions.specs.declared.pieces.End.TheVariants.{Last}
-use Rattle.versions.proofs.Steps.{shorter}
+use Rattle.std.proofs.Common.{sym, ◌∙◌}
 use Rattle.versions.proofs.Releases.{no_identifier, identifier_dot, identifier_over}
 use Rattle.versions.proofs.texts.are_identifiers.Goals as goal
 
@@ -10,12 +7,6 @@ returns-then-not-is_identifier c =
     let piece = c.next_piece-piece.result in
     sym (no_identifier c.loop-piece.rest.now piece.text.now piece.end piece.rest.now c.next_piece-piece.ensures (sym c.if-not-is_identifier.ensures))
     ∙ c.loop-piece.invariant
-
-pub loop-piece-smaller : goal.loop-piece-smaller
-loop-piece-smaller c =
-    let piece = c.next_piece-piece.result in
-    let goes_on : piece.end ≡ Last → ⊥ = grind arith in
-    shorter c.loop-piece.rest.now piece.text.now piece.end piece.rest.now Identifiers c.next_piece-piece.ensures goes_on
 
 pub loop-piece-preserved : goal.loop-piece-preserved
 loop-piece-preserved c =

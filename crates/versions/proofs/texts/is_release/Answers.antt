@@ -5,9 +5,6 @@ use Rattle.versions.proofs.texts.is_release.Goals as goal
 pub returns-in_default : goal.returns-in_default
 returns-in_default c = sym (c.in_default.ensures 1)
 
-pub returns-in_default-behind_number : goal.returns-in_default-behind_number
-returns-in_default-behind_number c = sym (c.in-Some.ensures 2 ∙ c.in_default-behind_number.ensures 0)
-
 pub returns-then-not-is_number : goal.returns-then-not-is_number
 returns-then-not-is_number c =
     let piece = c.next_piece-piece.result in

@@ -2,7 +2,7 @@ use Rattle.std.proofs.Common.{sym, ap, ◌∙◌}
 use Rattle.std.specs.Ordering.{is_lt}
 use Rattle.std.proofs.lemmas.Bool.{cond-true, cond-false}
 use Rattle.rules.specs.Versions.{is_newer}
-use Rattle.versions.proofs.Others.{other_not_newer, newer_than_other, newer_version, not_less}
+use Rattle.versions.proofs.Others.{other_not_newer, newer_than_other, newer_version}
 use Rattle.versions.proofs.texts.newer.Goals as goal
 
 pub returns-then-not-is_version : goal.returns-then-not-is_version
@@ -17,16 +17,16 @@ returns-then-not-is_version-2 c =
     let b = c.args.b in
     sym (cond-true (is_newer b.now a.now) b a (newer_than_other a.now b.now (sym c.if-not-is_version-2.ensures) (sym c.if-not-is_version.ensures)))
 
-pub returns-in-Less : goal.returns-in-Less
-returns-in-Less c =
+pub returns-then-is_lt : goal.returns-then-is_lt
+returns-then-is_lt c =
     let a = c.args.a in
     let b = c.args.b in
     let e = newer_version a.now b.now (sym c.if-not-is_version-2.ensures) (sym c.if-not-is_version.ensures) in
-    sym (cond-true (is_newer b.now a.now) b a (e ∙ ap is_lt (sym c.in-Less.ensures)))
+    sym (cond-true (is_newer b.now a.now) b a (e ∙ ap is_lt (sym c.precedence.ensures) ∙ sym c.if-is_lt.ensures))
 
-pub returns-in_default : goal.returns-in_default
-returns-in_default c =
+pub returns-else-is_lt : goal.returns-else-is_lt
+returns-else-is_lt c =
     let a = c.args.a in
     let b = c.args.b in
     let e = newer_version a.now b.now (sym c.if-not-is_version-2.ensures) (sym c.if-not-is_version.ensures) in
-    sym (cond-false (is_newer b.now a.now) b a (e ∙ ap is_lt (sym c.precedence.ensures) ∙ not_less c.precedence.result c.in_default.not-Less))
+    sym (cond-false (is_newer b.now a.now) b a (e ∙ ap is_lt (sym c.precedence.ensures) ∙ sym c.if-is_lt.ensures))

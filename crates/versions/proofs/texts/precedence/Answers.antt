@@ -1,6 +1,5 @@
 use Rattle.std.proofs.Common.{◌≡◌, sym, ap, ◌∙◌, arith}
 use Rattle.versions.specs.declared.pieces.End.TheVariants.{Last}
-use Rattle.versions.proofs.Steps.{shorter}
 use Rattle.versions.proofs.Ranks.{part_behind, sound_version, order_versions, sound_piece, turn_decides, turn_ends, turn_again}
 use Rattle.versions.proofs.texts.precedence.Goals as goal
 use Rattle.versions.proofs.texts.precedence.Goals.{in-Dash, in-Dot}
@@ -27,12 +26,6 @@ returns-in_default c =
 pub returns-in-Last : goal.returns-in-Last
 returns-in-Last c =
     turn_ends c.cmp.result c.next_piece-p.ensures c.next_piece-q.ensures c.loop-unequal.invariant c.compare_pieces.ensures c.cmp.ensures c.then.ensures c.in-Equal.is c.in-Last.is
-
-pub loop-unequal-smaller : goal.loop-unequal-smaller
-loop-unequal-smaller c =
-    let p = c.next_piece-p.result in
-    let goes_on : p.end ≡ Last → ⊥ = grind arith in
-    shorter c.loop-unequal.left.now p.text.now p.end p.rest.now c.loop-unequal.part c.next_piece-p.ensures goes_on
 
 pub loop-unequal-preserved : goal.loop-unequal-preserved
 loop-unequal-preserved c =

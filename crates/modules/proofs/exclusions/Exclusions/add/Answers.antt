@@ -1,5 +1,4 @@
 use Rattle.std.proofs.Common.{map, refl, ap, ◌∙◌}
-use Rattle.ordered.specs.Held.{held}
 use Rattle.rules.specs.Names.{module_order}
 use Rattle.rules.specs.Rows.{own}
 use Rattle.rules.specs.Tables.{keep}
@@ -11,7 +10,7 @@ use Rattle.modules.proofs.exclusions.Exclusions.add.Goals as goal
 
 pub returns : goal.returns
 returns c =
-    let t = held c.args.self.now.table in
+    let t = c.args.self.now.table in
     let x = c.args.row in
     record {
       value = admitted_named own row_order own module_order row_names 32 x (row_names x) (λ y. refl) t c.insert.result c.insert.ensures.value;

@@ -1,5 +1,4 @@
 use Rattle.std.proofs.Common.{map, refl, ap, ◌∙◌}
-use Rattle.ordered.specs.Held.{held}
 use Rattle.rules.specs.Versions.{version_order}
 use Rattle.rules.specs.Rows.{own}
 use Rattle.rules.specs.Tables.{keep}
@@ -11,7 +10,7 @@ use Rattle.modules.proofs.listing.Listing.add.Goals as goal
 
 pub returns : goal.returns
 returns c =
-    let t = held c.args.self.now.table in
+    let t = c.args.self.now.table in
     let v = c.args.version in
     record {
       value = admitted_named own plain_version_order own version_order plain_version_bytes 64 v (plain_version_bytes v) (λ y. refl) t c.insert.result c.insert.ensures.value;

@@ -1,6 +1,5 @@
 use Rattle.std.proofs.Common.{ltb, map, length, is_ok, sym, refl, ap, ◌∙◌}
 use Rattle.names.specs.Paths.{plain_path_bytes, plain_path_order}
-use Rattle.ordered.specs.Held.{held}
 use Rattle.rules.specs.Paths.{path_order}
 use Rattle.rules.specs.Rows.{path_of, higher, row_of}
 use Rattle.rules.specs.Tables.{keep}
@@ -12,7 +11,7 @@ use Rattle.modules.proofs.requirements.Requirements.add.Goals as goal
 
 pub returns : goal.returns
 returns c =
-    let t = held c.args.self.now.table in
+    let t = c.args.self.now.table in
     let x = c.args.row in
     let p = plain_path_bytes x.path in
     let v = admitted_named row_path plain_path_order path_of path_order row_names 256 x.path p (λ y. refl) t c.insert.result c.insert.ensures.value in

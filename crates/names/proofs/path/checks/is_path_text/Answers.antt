@@ -1,4 +1,4 @@
-use Rattle.std.proofs.Common.{◌≡◌, ℕ, ◌+◌, ◌<◌, ◌≤◌, Bool, true, false, not, ◌&&◌, [], length, get_or, drop, sym, ap, ◌∙◌, arith}
+use Rattle.std.proofs.Common.{◌≡◌, ℕ, ◌+◌, ◌<◌, ◌≤◌, Bool, false, not, ◌&&◌, [], length, get_or, drop, sym, ap, ◌∙◌, arith}
 use Rattle.std.proofs.lemmas.List.{at_drop_more, drop_all}
 use Rattle.std.proofs.lemmas.Bool.{le-leb}
 use Rattle.rules.specs.Orders.{Bytes}
@@ -23,12 +23,6 @@ returns-then-not-may_follow c =
     let s = c.args.text.now in
     let i = c.loop-b.b-index in
     sym (passes s (omega arith) ∙ sym c.loop-b.invariant ∙ step s i c.loop-b.before false c.loop-b-test.true c.if-not-may_follow.ensures)
-
-pub loop-b-preserved : goal.loop-b-preserved
-loop-b-preserved c =
-    let s = c.args.text.now in
-    let i = c.loop-b.b-index in
-    sym (step s i c.loop-b.before true c.loop-b-test.true c.if-not-may_follow.ensures) ∙ c.loop-b.invariant
 
 pub returns : goal.returns
 returns c =

@@ -1,18 +1,19 @@
 -- What stands at the place of the key is what the look-up gives. Assumes nothing.
+use Rattle.std.proofs.Common.{get_or, Some, ap, ◌∙◌}
+use Rattle.std.specs.Result.{result_ok}
 use Rattle.ordered.proofs.Found.{found_looked, missed_looked}
 use Rattle.ordered.proofs.table.Table.lookup.Goals as goal
 
-pub returns-in-Ok : goal.returns-in-Ok
-returns-in-Ok g c =
-    let t = c.args.self.now in
-    let e = c.in-Ok.ensures in
-    record {
-      value = found_looked g.T.Keyed.keyed g.K.Ordered.order t.items t.count c.args.key.now c.in-Ok.i e.value e.items c.index-self-i.result;
-    }
+pub returns-in_err-i : goal.returns-in_err-i
+returns-in_err-i g c = record {
+  value = rw c.from_residual.ensures (missed_looked g.T.Keyed.keyed g.K.Ordered.order c.args.key.now c.args.self.now (c.in_err-i.ensures.value ∙ ap result_ok c.place.ensures.value));
+}
 
-pub returns-in-Err : goal.returns-in-Err
-returns-in-Err g c =
-    let t = c.args.self.now in
+pub returns : goal.returns
+returns g c =
+    let i = c.in_ok-i.i in
+    let x = c.index-as_slice-i.result in
     record {
-      value = missed_looked g.T.Keyed.keyed g.K.Ordered.order t.items t.count c.args.key.now c.in-Err.field-0 c.in-Err.ensures.value;
+      value = ap Some (c.index-as_slice-i.is ∙ ap (λ xs. get_or xs i x) c.as_slice.ensures.value)
+          ∙ found_looked g.T.Keyed.keyed g.K.Ordered.order c.args.key.now c.args.self.now i (c.in_ok-i.ensures.value ∙ ap result_ok c.place.ensures.value) x;
     }

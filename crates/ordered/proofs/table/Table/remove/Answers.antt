@@ -1,44 +1,38 @@
 -- The item at the place of the key is taken out. Assumes nothing.
-use Rattle.std.proofs.Common.{◌≡◌, ◌-◌, take, refl, ◌∙◌}
-use Rattle.rules.specs.Orders.{Laws}
-use Rattle.rules.specs.Tables as tables
-use Rattle.ordered.specs.Held.{held}
+use Rattle.std.proofs.Common.{◌≡◌, ◌-◌, take, ap, ◌∙◌, subst}
+use Rattle.std.specs.Result.{result_ok}
+use Rattle.std.specs.List.{remove}
+use Rattle.rules.specs.Tables.{removed}
 use Rattle.ordered.proofs.Ascents.{removed_ascends}
-use Rattle.ordered.proofs.Found.{found_looked, found_gone, missed_looked, missed_gone}
+use Rattle.ordered.proofs.Found.{found_read, found_gone, missed_looked, missed_gone}
 use Rattle.ordered.proofs.table.Table.remove.Given as given
 use Rattle.ordered.proofs.table.Table.remove.Goals as goal
+use Rattle.rules.specs.Orders.{Laws}
 
 laws : (g : given.Over) → Laws g.K.Ordered.order
 laws g =
     let o = g.met.K.Ordered in
-    record { total = o.total; antisymmetric = o.antisymmetric; transitive = o.transitive; mirrored = o.mirrored }
+    subst Laws (λ i x y. o.compared x y i) (record { total = o.total; antisymmetric = o.antisymmetric; transitive = o.transitive; mirrored = o.mirrored })
 
-pub returns-in-Ok : goal.returns-in-Ok
-returns-in-Ok g c =
-    let t = c.args.self.now in
-    let k = c.args.key.now in
-    let key = g.T.Keyed.keyed in
-    let order = g.K.Ordered.order in
-    let e = c.in-Ok.ensures in
-    let left : take (t.count - 1) c.remove_at.new.items ≡ tables.removed key order k (held t) =
-    c.remove_at.ensures.after ∙ found_gone key order t.items t.count k c.in-Ok.at e.value in
-    record {
-      value = found_looked key order t.items t.count k c.in-Ok.at e.value e.items c.index-self-at.result;
-      after = left;
-      same = λ q. cc;
-      ascending = removed_ascends key order (laws g) (held t) (take (t.count - 1) c.remove_at.new.items) k left;
-    }
+pub returns-in_err-at-clause-value : goal.returns-in_err-at-clause-value
+returns-in_err-at-clause-value g c =
+    rw c.from_residual.ensures (missed_looked g.T.Keyed.keyed g.K.Ordered.order c.args.key.now c.args.self.now (c.in_err-at.ensures.value ∙ ap result_ok c.place.ensures.value))
 
-pub returns-in-Err : goal.returns-in-Err
-returns-in-Err g c =
-    let t = c.args.self.now in
-    let k = c.args.key.now in
-    let key = g.T.Keyed.keyed in
-    let order = g.K.Ordered.order in
-    let e = c.in-Err.ensures in
-    record {
-      value = missed_looked key order t.items t.count k c.in-Err.field-0 e.value;
-      after = missed_gone key order t.items t.count k c.in-Err.field-0 e.value;
-      same = λ _. refl {a = t};
-      ascending = λ up. up;
-    }
+pub returns-in_err-at-clause-after : goal.returns-in_err-at-clause-after
+returns-in_err-at-clause-after g c = missed_gone g.T.Keyed.keyed g.K.Ordered.order c.args.key.now c.args.self.now (c.in_err-at.ensures.value ∙ ap result_ok c.place.ensures.value)
+
+pub returns-clause-value : goal.returns-clause-value
+returns-clause-value g c =
+    found_read g.T.Keyed.keyed g.K.Ordered.order c.args.key.now c.args.self.now c.in_ok-at.at (c.in_ok-at.ensures.value ∙ ap result_ok c.place.ensures.value)
+    c.self.inside.items c.self.inside.count c.self.view_is c.index-self-at.result
+
+left : (g : given.Over) (c : goal.After-self-2-1 g) → take (c.self.inside.count - 1) c.remove_at.new.items ≡ removed g.T.Keyed.keyed g.K.Ordered.order c.args.key.now c.args.self.now
+left g c =
+    c.remove_at.ensures.after ∙ ap (λ zs. remove zs c.in_ok-at.at) c.self.view_is
+    ∙ found_gone g.T.Keyed.keyed g.K.Ordered.order c.args.key.now c.args.self.now c.in_ok-at.at (c.in_ok-at.ensures.value ∙ ap result_ok c.place.ensures.value)
+
+pub returns-clause-after : goal.returns-clause-after
+returns-clause-after g c = left g c
+
+pub returns-clause-ascending : goal.returns-clause-ascending
+returns-clause-ascending g c = removed_ascends g.T.Keyed.keyed g.K.Ordered.order (laws g) c.args.self.now (take (c.self.inside.count - 1) c.remove_at.new.items) c.args.key.now (left g c)

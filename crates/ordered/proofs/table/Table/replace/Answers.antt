@@ -1,45 +1,42 @@
 -- The item is written at the place of its key. Assumes nothing.
-use Rattle.std.proofs.Common.{◌≡◌, take, set, Ok, Err, refl}
+use Rattle.std.proofs.Common.{◌≡◌, Some, take, set, ap, ◌∙◌, subst}
+use Rattle.std.specs.Result.{result_ok}
 use Rattle.rules.specs.Orders.{Laws}
 use Rattle.rules.specs.Tables.{entered}
-use Rattle.ordered.specs.Held.{held, give}
+use Rattle.ordered.specs.Held.{give}
+use Rattle.ordered.specs.Places.{sought}
 use Rattle.ordered.proofs.Ascents.{entered_ascends}
-use Rattle.ordered.proofs.Found.{by_key, found_looked, found_put, missed_looked}
+use Rattle.ordered.proofs.Found.{found_read, found_written, missed_looked}
 use Rattle.ordered.proofs.table.Table.replace.Given as given
 use Rattle.ordered.proofs.table.Table.replace.Goals as goal
 
 laws : (g : given.Over) → Laws g.K.Ordered.order
 laws g =
     let o = g.met.K.Ordered in
-    record { total = o.total; antisymmetric = o.antisymmetric; transitive = o.transitive; mirrored = o.mirrored }
+    subst Laws (λ i x y. o.compared x y i) (record { total = o.total; antisymmetric = o.antisymmetric; transitive = o.transitive; mirrored = o.mirrored })
 
-pub returns-in-Ok : goal.returns-in-Ok
-returns-in-Ok g c =
-    let t = c.args.self.now in
-    let x = c.args.item in
-    let key = g.T.Keyed.keyed in
-    let order = g.K.Ordered.order in
-    let h = c.in-Ok.ensures in
-    let e = by_key key order (held t) (Ok c.in-Ok.at) c.key.result.now (key x) c.key.ensures h.value in
-    let put : take t.count (set t.items c.in-Ok.at x) ≡ entered key order give x (held t) =
-    found_put key order t.items t.count x c.in-Ok.at e h.items in
-    record {
-      value = found_looked key order t.items t.count (key x) c.in-Ok.at e h.items c.index-self-at.result;
-      after = λ _. put;
-      same = λ q. cc;
-      ascending = entered_ascends key order (laws g) (held t) (take t.count (set t.items c.in-Ok.at x)) give (λ _ _ p. p) x put;
-    }
+pub returns-in_err-at-clause-value : goal.returns-in_err-at-clause-value
+returns-in_err-at-clause-value g c =
+    let by_key = ap (λ k. result_ok (sought g.T.Keyed.keyed g.K.Ordered.order k c.args.self.now)) c.key.ensures in
+    rw c.from_residual.ensures (missed_looked g.T.Keyed.keyed g.K.Ordered.order (g.T.Keyed.keyed c.args.item) c.args.self.now (c.in_err-at.ensures.value ∙ ap result_ok c.place.ensures.value ∙ by_key))
 
-pub returns-in-Err : goal.returns-in-Err
-returns-in-Err g c =
-    let t = c.args.self.now in
-    let x = c.args.item in
-    let key = g.T.Keyed.keyed in
-    let order = g.K.Ordered.order in
-    let e = by_key key order (held t) (Err c.in-Err.field-0) c.key.result.now (key x) c.key.ensures c.in-Err.ensures.value in
-    record {
-      value = missed_looked key order t.items t.count (key x) c.in-Err.field-0 e;
-      after = λ q. cc;
-      same = λ _. refl {a = t};
-      ascending = λ up. up;
-    }
+found : (g : given.Over) (c : goal.After-index-self-at-2 g) → Some c.in_ok-at.at ≡ result_ok (sought g.T.Keyed.keyed g.K.Ordered.order (g.T.Keyed.keyed c.args.item) c.args.self.now)
+found g c =
+    c.in_ok-at.ensures.value ∙ ap result_ok c.place.ensures.value
+    ∙ ap (λ k. result_ok (sought g.T.Keyed.keyed g.K.Ordered.order k c.args.self.now)) c.key.ensures
+
+pub returns-clause-value : goal.returns-clause-value
+returns-clause-value g c =
+    found_read g.T.Keyed.keyed g.K.Ordered.order (g.T.Keyed.keyed c.args.item) c.args.self.now c.in_ok-at.at (found g c)
+    c.self.inside.items c.self.inside.count c.self.view_is c.index-self-at.result
+
+put : (g : given.Over) (c : goal.After-index-self-at-2 g) → take c.self.inside.count (set c.self.inside.items c.in_ok-at.at c.args.item) ≡ entered g.T.Keyed.keyed g.K.Ordered.order give c.args.item c.args.self.now
+put g c =
+    found_written g.T.Keyed.keyed g.K.Ordered.order c.args.item c.args.self.now c.in_ok-at.at (found g c)
+    c.self.inside.items c.self.inside.count c.self.view_is
+
+pub returns-clause-after : goal.returns-clause-after
+returns-clause-after g c = λ _. put g c
+
+pub returns-clause-ascending : goal.returns-clause-ascending
+returns-clause-ascending g c = entered_ascends g.T.Keyed.keyed g.K.Ordered.order (laws g) c.args.self.now _ give (λ _ _ p. p) c.args.item (put g c)
