@@ -1,8 +1,12 @@
--- The words for each cause. Assumes nothing.
-use Rattle.std.specs.Prelude.{codes}
+-- The words for each cause, and the line for a refusal. Assumes nothing.
+use Rattle.std.specs.Prelude.{◌++◌, codes}
+use Rattle.std.specs.Fmt.{decimal}
 use Rattle.rules.specs.Orders.{Bytes}
+use Rattle.rules.specs.Causes.{number}
 use Rattle.causes.specs.declared.cause.Cause.{Cause}
 use Rattle.causes.specs.declared.cause.Cause.TheVariants.{TooLong, BadByte, WrongShape, BadPath, BadVersion, ModuleLine, RowTooMany, Missing, DamagedBuffer, TooManyToList, SliceTooShort, TooManyModuleVersions, TableFull, NothingToChange}
+use Rattle.causes.specs.declared.refusal.Refusal.{Refusal}
+use Rattle.causes.specs.Told.{cause_of}
 
 abbrev pub wording : Cause → Bytes
 wording TooLong = codes "a text or buffer too long"
@@ -19,3 +23,13 @@ wording SliceTooShort = codes "a slice too short"
 wording TooManyModuleVersions = codes "too many module versions"
 wording TableFull = codes "a full table"
 wording NothingToChange = codes "nothing to change"
+
+-- behind a space
+abbrev parted : Bytes → Bytes
+parted bs = codes " " ++ bs
+
+-- the number of the cause, the three places and the cause in words
+abbrev pub refusal_line : Refusal → Bytes
+refusal_line r =
+    codes "refused "
+    ++ (decimal (number (cause_of r.cause)) ++ parted (decimal r.place ++ parted (decimal r.depth ++ parted (decimal r.sheet_place ++ parted (wording r.cause)))))

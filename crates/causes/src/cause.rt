@@ -1,4 +1,4 @@
-// The fourteen causes. A script reads the number, a person the words; both are fixed.
+// The fourteen causes, each with its number. A script reads the number, a person the words; both are fixed.
 ghost use Rattle.std.specs.Prelude.{◌≡◌, Some};
 ghost use Rattle.rules.specs.Causes.{number as number_of};
 ghost use Rattle.causes.specs.Told.{cause_of};
@@ -9,24 +9,24 @@ use std::fmt;
 #[derive(Clone, Copy, PartialEq, Eq, Debug)]
 pub enum Cause {
     // of a text or a buffer
-    TooLong,
-    BadByte,
-    WrongShape,
-    BadPath,
-    BadVersion,
+    TooLong = 1,
+    BadByte = 2,
+    WrongShape = 3,
+    BadPath = 4,
+    BadVersion = 5,
     // a second module line, or none
-    ModuleLine,
-    RowTooMany,
+    ModuleLine = 6,
+    RowTooMany = 7,
     // of a source; missing: it has no such manifest
-    Missing,
-    DamagedBuffer,
-    TooManyToList,
+    Missing = 8,
+    DamagedBuffer = 9,
+    TooManyToList = 10,
     // of a call: it was lent too little
-    SliceTooShort,
+    SliceTooShort = 11,
     // a walk needs a 257th place
-    TooManyModuleVersions,
-    TableFull,
-    NothingToChange,
+    TooManyModuleVersions = 12,
+    TableFull = 13,
+    NothingToChange = 14,
 }
 
 impl Cause {
@@ -34,22 +34,7 @@ impl Cause {
     pub fn number(self) -> u8
         ensures value { result ≡ number_of (cause_of self) }
     {
-        match self {
-            Cause::TooLong => 1,
-            Cause::BadByte => 2,
-            Cause::WrongShape => 3,
-            Cause::BadPath => 4,
-            Cause::BadVersion => 5,
-            Cause::ModuleLine => 6,
-            Cause::RowTooMany => 7,
-            Cause::Missing => 8,
-            Cause::DamagedBuffer => 9,
-            Cause::TooManyToList => 10,
-            Cause::SliceTooShort => 11,
-            Cause::TooManyModuleVersions => 12,
-            Cause::TableFull => 13,
-            Cause::NothingToChange => 14,
-        }
+        self as u8
     }
 
     // What the cause is, in a few words of English.

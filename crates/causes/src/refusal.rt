@@ -1,7 +1,8 @@
 // Why a call is refused: the cause, the place it speaks of (of a manifest its line), how many layers down it arose, and the place of the sheet
 // that was questioned. What is not named is zero.
-ghost use Rattle.std.specs.Prelude.{◌≡◌};
+ghost use Rattle.std.specs.Prelude.{◌≡◌, Some};
 ghost use Rattle.causes.specs.Told.{refusal_of, cause_of, of_place};
+ghost use Rattle.causes.specs.Wording.{refusal_line};
 
 use crate::cause::Cause;
 use std::fmt;
@@ -39,6 +40,8 @@ impl From<Cause> for Refusal {
 
 // The cause by its number, the three places, and the cause in words: a line that a script and a person can read.
 impl fmt::Display for Refusal {
+    ghost output = { λ r. Some (refusal_line r) };
+
     fn fmt<W: fmt::Write>(&self, f: &mut fmt::Formatter<W>) -> fmt::Result {
         let number = self.cause.number();
         let place = self.place;

@@ -50,8 +50,5 @@ module _ (text : Bytes) (at : ℕ) (f : Bytes) (h : at ≤ length text) (is : f 
   first_is : f ≡ first_line (drop at text)
   first_is = is ∙ ap first_line (take_rest text at)
 
-  pub first_within : at + length f ≤ length text
-  first_within = omega (arith, ap length first_is, first_length (drop at text), prefix_len-le-length in_line (drop at text), length-drop at text)
-
   pub lines_next : lines_from at text ≡ f ∷ lines_from (at + (length f + 1)) text
   lines_next = lines_on text at h ∙ ap (λ l. l ∷ lines_from (at + (length l + 1)) text) (sym first_is)

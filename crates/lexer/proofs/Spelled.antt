@@ -1,6 +1,5 @@
 -- The words of a line, the first of them cut off. Assumes nothing.
 use Rattle.std.proofs.Common.{◌≡◌, ℕ, suc, ◌-◌, ◌<◌, Bool, true, false, not, ◌||◌, eqb, List, [], ◌∷◌, length, get_or, take, drop, sym, refl, ap, ◌∙◌, ⊎_elim, one-add, arith}
-use native.Mathlib.Nat.{sub-zero}
 use Rattle.std.specs.List.{prefix_len}
 use Rattle.std.proofs.lemmas.List.{take_rest, nil_from_length, drop_more}
 use Rattle.std.proofs.lemmas.Bool.{cond-true, cond-false, cases_Bool, not-true, or_parts, or_from, ne_eqb}
@@ -76,10 +75,9 @@ module _ (s r : Bytes) (n : ℕ) (is : r ≡ take (length s - n) (drop n s)) (ga
   cut_of (x ∷ xs) some e = word_cut x xs e
 
   pub at_text : (k : ℕ) → 0 < length r → (get_or r 0 0 ≡ 40 → ⊥) → (get_or r 0 0 ≡ 41 → ⊥) → k ≡ prefix_len word_byte r
-      → words s ≡ text (take (k - 0) r) ∷ words (take (length r - k) (drop k r))
+      → words s ≡ cut k r
   at_text k some a b long =
       let whole : r ≡ drop (prefix_len gap s) s = is ∙ take_rest s n ∙ ap (λ m. drop m s) gaps in
       let first : gap (get_or r 0 0) ≡ false = ap (λ l. gap (get_or l 0 0)) whole ∙ gaps_end s (omega (arith, ap length whole)) in
       let e : word_byte (get_or r 0 0) ≡ true = ap not (or_from _ _ first (or_from _ _ (ne_eqb _ _ a) (ne_eqb _ _ b))) in
-      same ∙ cut_of r some e ∙ ap (λ m. cut m r) (sym long) ∙ ap (λ m. text (take m r) ∷ words (drop k r)) (sym (sub-zero k))
-      ∙ ap (λ l. text (take (k - 0) r) ∷ words l) (sym (take_rest r k))
+      same ∙ cut_of r some e ∙ ap (λ m. cut m r) (sym long)

@@ -25,3 +25,11 @@ line_told l = (l.number, l.code.now)
 abbrev pub next_line : ℕ → List Bytes → Option (ℕ × Bytes)
 next_line n [] = None
 next_line n (l ∷ ls) = Some (n + 1, code l)
+
+-- lines behind line n, each as its number and its code
+abbrev pub numbered : ℕ → List Bytes → List (ℕ × Bytes)
+numbered n [] = []
+numbered n (l ∷ ls) = (n + 1, code l) ∷ numbered (n + 1) ls
+
+abbrev pub lines_ahead : Lines → List (ℕ × Bytes)
+lines_ahead l = numbered l.line (lines_left l)

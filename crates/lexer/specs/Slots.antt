@@ -10,16 +10,10 @@ use Rattle.lexer.specs.Told.{word_told, next_word}
 abbrev pub two_on : List R.Word → List R.Word
 two_on ws = but_first (but_first ws)
 
-abbrev pub four_on : List R.Word → List R.Word
-four_on ws = two_on (two_on ws)
-
 -- the words ws of line n
 pub record Slots (n : ℕ) (ws : List R.Word) (w : LineWords) : Type 0 where
   pub first : option_map word_told w.first ≡ next_word n ws
   pub second : option_map word_told w.second ≡ next_word n (but_first ws)
   pub third : option_map word_told w.third ≡ next_word n (two_on ws)
   pub fourth : option_map word_told w.fourth ≡ next_word n (but_first (two_on ws))
-  pub fifth : option_map word_told w.fifth ≡ next_word n (four_on ws)
-  pub sixth : option_map word_told w.sixth ≡ next_word n (but_first (four_on ws))
-  pub more : w.more ≡ is_some (next_word n (two_on (four_on ws)))
   pub bracket : w.bracket ≡ not (is_some (plain ws))

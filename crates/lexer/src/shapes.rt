@@ -13,7 +13,7 @@ use crate::slots::{LineWords, line_words};
 use crate::verbs::{Verb, read_verb};
 use crate::words::Word;
 
-#[derive(Clone, Copy)]
+#[derive(Clone, Copy, PartialEq, Eq, Debug)]
 pub enum Directive<'a> {
     // nothing: the line has no words, or another verb
     Passed,

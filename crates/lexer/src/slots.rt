@@ -1,9 +1,9 @@
-// The words of a line, held without memory of their own: the first six, whether there are more, and whether a bracket is among them all. No
-// shape of a line asks for more: one with six words or more is passed over or wrong, and there only its verb and its brackets count.
-ghost use Rattle.std.specs.Prelude.{◌≡◌, not};
-ghost use Rattle.rules.specs.Texts.{every};
+// The words of a line, held without memory of their own: the first four, and whether a bracket is among them all. No shape of a line asks for
+// more: one with four words or more is passed over or wrong, and there only its verb and its brackets count.
+ghost use Rattle.std.specs.Prelude.{◌≡◌};
+ghost use Rattle.std.specs.List.{list_any};
 ghost use Rattle.rules.specs.Lines.{words};
-ghost use Rattle.lexer.specs.Brackets.{bracket_byte, no_bracket};
+ghost use Rattle.lexer.specs.Brackets.{bracket_byte};
 ghost use Rattle.lexer.specs.Slots.{Slots};
 
 use crate::lines::Line;
@@ -15,28 +15,20 @@ pub(crate) struct LineWords<'a> {
     pub(crate) second: Option<Word<'a>>,
     pub(crate) third: Option<Word<'a>>,
     pub(crate) fourth: Option<Word<'a>>,
-    pub(crate) fifth: Option<Word<'a>>,
-    pub(crate) sixth: Option<Word<'a>>,
-    pub(crate) more: bool,
     pub(crate) bracket: bool,
 }
 
 fn is_bracket(b: u8) -> bool
     ensures value { result ≡ bracket_byte b }
 {
-    b == b'(' || b == b')'
+    matches!(b, b'(' | b')')
 }
 
 // Whether there is a bracket: each is a word by itself, so its byte tells.
 fn has_bracket(code: &[u8]) -> bool
-    ensures value { result ≡ not (every no_bracket code.now) }
+    ensures value { result ≡ list_any bracket_byte code.now }
 {
-    for b in code {
-        if is_bracket(*b) {
-            return true;
-        }
-    }
-    false
+    code.iter().any(|b| is_bracket(*b))
 }
 
 pub(crate) fn line_words<'a>(line: Line<'a>) -> LineWords<'a>
@@ -47,17 +39,11 @@ pub(crate) fn line_words<'a>(line: Line<'a>) -> LineWords<'a>
     let second = cursor.next_word();
     let third = cursor.next_word();
     let fourth = cursor.next_word();
-    let fifth = cursor.next_word();
-    let sixth = cursor.next_word();
-    let more = cursor.next_word().is_some();
     LineWords {
         first,
         second,
         third,
         fourth,
-        fifth,
-        sixth,
-        more,
         bracket: has_bracket(line.code),
     }
 }

@@ -8,7 +8,7 @@ ghost use Rattle.lexer.specs.Told.{word_told, next_word};
 
 use crate::lines::Line;
 
-#[derive(Clone, Copy)]
+#[derive(Clone, Copy, PartialEq, Eq, Debug)]
 pub enum Word<'a> {
     Text(&'a [u8], usize),
     Open(usize),
@@ -26,7 +26,7 @@ pub struct Cursor<'a> {
 fn is_gap(b: u8) -> bool
     ensures value { result ≡ gap b }
 {
-    b == b' ' || b == b'\t' || b == b'\r'
+    matches!(b, b' ' | b'\t' | b'\r')
 }
 
 // A byte of a word that is no bracket.
@@ -40,22 +40,14 @@ fn is_word_byte(b: u8) -> bool
 fn gap_length(bytes: &[u8]) -> usize
     ensures value { (result ≡ prefix_len gap bytes.now) × (result ≤ length bytes.now) }
 {
-    let mut n = 0;
-    while n < bytes.len() && is_gap(bytes[n]) {
-        n += 1;
-    }
-    n
+    bytes.iter().take_while(|b| is_gap(**b)).count()
 }
 
 // How many bytes the word has that begins here.
 fn word_length(bytes: &[u8]) -> usize
     ensures value { (result ≡ prefix_len word_byte bytes.now) × (result ≤ length bytes.now) }
 {
-    let mut n = 0;
-    while n < bytes.len() && is_word_byte(bytes[n]) {
-        n += 1;
-    }
-    n
+    bytes.iter().take_while(|b| is_word_byte(**b)).count()
 }
 
 impl<'a> Cursor<'a> {
@@ -71,6 +63,7 @@ impl<'a> Cursor<'a> {
     }
 
     // The next word, if there is one.
+    // Kept: no Iterator, since the words of a line are asked for by name, four of them, and no loop goes over them.
     pub fn next_word(&mut self) -> Option<Word<'a>>
         ensures value { option_map word_told result ≡ next_word self.old.line (words self.old.rest.now) }
         ensures items { words self.new.rest.now ≡ but_first (words self.old.rest.now) }
@@ -89,9 +82,9 @@ impl<'a> Cursor<'a> {
                 Some(Word::Close(self.line))
             }
             _ => {
-                let long = word_length(rest);
-                self.rest = &rest[long..];
-                Some(Word::Text(&rest[0..long], self.line))
+                let (word, after) = rest.split_at(word_length(rest));
+                self.rest = after;
+                Some(Word::Text(word, self.line))
             }
         }
     }

@@ -1,11 +1,22 @@
 -- What the lines make in the end. Assumes nothing.
-use Rattle.std.proofs.Common.{◌≡◌, ℕ, List, [], length, IfOk, Some, None, Ok, Err, Option, Result, sym, refl, ap, ◌∙◌, arith}
+use Rattle.std.proofs.Common.{◌≡◌, ℕ, List, [], length, IfOk, Some, None, Ok, Err, Option, Result, sym, refl, ap, ◌∙◌, ap₂, arith}
+use Rattle.std.specs.Option.{option_map}
 use Rattle.rules.specs.Orders.{Bytes}
 use Rattle.rules.specs.Names.{ModuleVersion}
 use Rattle.rules.specs.Causes as R
 use Rattle.rules.specs.Manifests as M
 use Rattle.causes.specs.declared.refusal.Refusal.{Refusal}
+use Rattle.rules.specs.Slices.{blank, filled}
+use Rattle.names.specs.Paths.{path_bytes}
+use Rattle.modules.specs.declared.rows.Row.{Row}
+use Rattle.lexer.specs.Told.{verb_told}
 use Rattle.manifest.specs.declared.kinds.Manifest.{Manifest}
+use Rattle.manifest.specs.declared.kinds.Progress.{Progress}
+use Rattle.manifest.specs.declared.rows.RowsRead.{RowsRead}
+use Rattle.manifest.specs.Holds.{names_in, names_read, Left}
+use Rattle.manifest.specs.Rows.{rows_read}
+use Rattle.manifest.specs.Views.{view}
+use Rattle.manifest.proofs.Held.{names_long, filled_up}
 use Rattle.manifest.specs.Outcomes.{Counts, outcome, counted, require_rows, exclude_rows, reading_told, finish_of}
 
 -- counts and rows are those of what is told
@@ -46,6 +57,10 @@ module _ (x y : M.Reading) (e : reading_told x ≡ reading_told y) where
 abbrev so_far : Option M.Verb → Option Bytes → List ModuleVersion → List ModuleVersion → M.Progress
 so_far block main xs ys = record { block = block; main = main; requires = xs; excludes = ys }
 
+-- nothing is read
+pub none_read : (required excluded : RowsRead) → required.count ≡ 0 → excluded.count ≡ 0 → view (record { block = None; main = None }) required excluded ≡ M.unbegun
+none_read required excluded a b i = so_far None None (names_read (a i) required.rows.now) (names_read (b i) excluded.rows.now)
+
 -- what is finished has the counts of its rows
 pub finished : (block : Option M.Verb) (main : Option Bytes) (xs ys : List ModuleVersion) (n k : ℕ) → length xs ≡ n → length ys ≡ k
     → finish_of block main n k ≡ counted (M.at_end (so_far block main xs ys))
@@ -65,3 +80,36 @@ rows_left (Ok m) None (Some p) xs ys e = (refl, refl)
 pub made_on : {A E P Q : Type 0} (r : Result A E) → (P → Q) → IfOk r (λ _. P) → IfOk r (λ _. Q)
 made_on (Ok a) f h = f h
 made_on (Err b) f h = tt
+
+-- the lines are read to p and these rows, what they make is r, and all of them make `all`
+module _ (p : Progress) (required excluded : RowsRead) (r : Result Manifest Refusal) (all : M.Reading)
+    (same : reading_told (M.at_end (view p required excluded)) ≡ reading_told all)
+    (told : outcome r ≡ finish_of (option_map verb_told p.block) (option_map path_bytes p.main) required.count excluded.count) where
+  abbrev block : Option M.Verb
+  block = option_map verb_told p.block
+
+  abbrev main : Option Bytes
+  main = option_map path_bytes p.main
+
+  abbrev end : M.Reading
+  end = M.at_end (view p required excluded)
+
+  counts : outcome r ≡ counted end
+  counts =
+      told ∙ finished block main (rows_read required) (rows_read excluded) required.count excluded.count
+      (names_long required.most required.count required.rows.now required.holds) (names_long excluded.most excluded.count excluded.rows.now excluded.holds)
+
+  pub end_counted : outcome r ≡ counted all
+  end_counted = counts ∙ same_counts end all same
+
+  left_by : (q : RowsRead) (was after : List Row) (xs : List ModuleVersion) → after ≡ q.rows.now → length q.rows.now ≡ length was → rows_read q ≡ xs → Left was after xs
+  left_by q was after xs e n k = ap names_in e ∙ filled_up q.most q.count q.rows.now q.holds ∙ ap₂ (filled blank) n k
+
+  pub end_left : (was_required was_excluded left_required left_excluded : List Row) → left_required ≡ required.rows.now → left_excluded ≡ excluded.rows.now
+      → length required.rows.now ≡ length was_required → length excluded.rows.now ≡ length was_excluded
+      → IfOk r (λ _. Left was_required left_required (require_rows all) × Left was_excluded left_excluded (exclude_rows all))
+  end_left was_required was_excluded left_required left_excluded a b n k =
+      made_on r (λ l. (
+        left_by required was_required left_required (require_rows all) a n (sym l.0 ∙ same_requires end all same),
+        left_by excluded was_excluded left_excluded (exclude_rows all) b k (sym l.1 ∙ same_excludes end all same),
+      )) (rows_left r block main (rows_read required) (rows_read excluded) counts)

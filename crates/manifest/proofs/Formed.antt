@@ -1,5 +1,5 @@
 -- What is read into the slices is well formed. Assumes nothing.
-use Rattle.std.proofs.Common.{◌≡◌, ℕ, ◌-◌, List, length, take, replicate, Ok, Result, sym, refl, ap, ◌∙◌, subst, ap₂, arith}
+use Rattle.std.proofs.Common.{◌≡◌, ℕ, ◌-◌, List, length, take, replicate, IfOk, OnOk, Ok, Err, Result, sym, refl, ap, ◌∙◌, subst, ap₂, arith}
 use Rattle.std.proofs.lemmas.List.{take_at}
 use Rattle.rules.specs.Orders.{Bytes}
 use Rattle.rules.specs.Names.{ModuleVersion}
@@ -9,6 +9,7 @@ use Rattle.rules.specs.Slices.{blank}
 use Rattle.rules.proofs.Readings.{well_formed}
 use Rattle.modules.specs.declared.rows.Row.{Row}
 use Rattle.names.specs.Paths.{path_bytes}
+use Rattle.causes.specs.declared.refusal.Refusal.{Refusal}
 use Rattle.manifest.specs.declared.kinds.Manifest.{Manifest}
 use Rattle.manifest.specs.Holds.{names_read, Left}
 use Rattle.manifest.specs.Outcomes.{Counts, outcome, counted, require_rows, exclude_rows, manifest_in}
@@ -35,3 +36,11 @@ module _ (most : ℕ) (text : Bytes) (m : Manifest) (was_required was_excluded r
         requires = names_left was_required required x.requires m.required (ap (λ c. c.required) counts) a i;
         excludes = names_left was_excluded excluded x.excludes m.excluded (ap (λ c. c.excluded) counts) b i;
       }
+
+-- or it is refused
+pub formed_if : (most : ℕ) (text : Bytes) (was_required was_excluded required excluded : List Row) (all : M.Reading) (r : Result Manifest Refusal)
+    → M.reading most text ≡ all → outcome r ≡ counted all → OnOk r (Left was_required required (require_rows all) × Left was_excluded excluded (exclude_rows all))
+    → IfOk r (λ m. M.WellFormed most (manifest_in required excluded m))
+formed_if most text was_required was_excluded required excluded all (Ok m) read told left =
+    formed_in most text m was_required was_excluded required excluded all read told left.0 left.1
+formed_if most text was_required was_excluded required excluded all (Err f) read told left = tt

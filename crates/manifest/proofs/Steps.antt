@@ -1,19 +1,21 @@
--- A manifest stops at a line that is refused. Assumes nothing.
-use Rattle.std.proofs.Common.{◌≡◌, ℕ, ◌+◌, List, [], ◌∷◌, Some, Err, sym, ap, ◌∙◌, arith}
+-- A manifest read from its lines as they are told, by number and code. Assumes nothing.
+use Rattle.std.proofs.Common.{◌≡◌, ℕ, ◌+◌, List, [], ◌∷◌, Ok, Err, Result, refl}
 use Rattle.rules.specs.Orders.{Bytes}
 use Rattle.rules.specs.Causes as R
 use Rattle.rules.specs.Lines.{code}
-use Rattle.rules.specs.Manifests.{Progress, unread, read_on, lines_read}
-use Rattle.lexer.specs.Lefts.{next_line}
+use Rattle.rules.specs.Manifests.{Progress, Reading, at_end, read_on, lines_read}
+use Rattle.lexer.specs.Lefts.{numbered}
 use Rattle.manifest.specs.Views.{code_read}
 
--- x is the number and the code of the line that follows line n
-pub read_stops : (most n : ℕ) (p : Progress) (ls : List Bytes) (x : ℕ × Bytes) → Some x ≡ next_line n ls → (c : R.Cause) → Err c ≡ code_read most p x.1
-    → lines_read most n p ls ≡ unread c x.0
-read_stops most n p [] x is c e = let z : ◌≡◌ {A = ℕ} 0 1 = cc in absurd (omega arith)
-read_stops most n p (l ∷ ls) x is c e =
-    let it : ℕ × Bytes = (n + 1, code l) in
-    let same : x ≡ it = cc in
-    let k : x.0 ≡ n + 1 = ap (λ (y : ℕ × Bytes). y.0) same in
-    ap (λ (y : ℕ × Bytes). read_on (λ q. lines_read most (n + 1) q ls) (n + 1) (code_read most p y.1)) (sym same)
-    ∙ ap (read_on (λ q. lines_read most (n + 1) q ls) (n + 1)) (sym e) ∙ ap (unread c) (sym k)
+abbrev pub told_read : ℕ → Progress → List (ℕ × Bytes) → Reading
+told_read most p [] = at_end p
+told_read most p (x ∷ xs) = read_on (λ q. told_read most q xs) x.0 (code_read most p x.1)
+
+pub read_as_told : (most n : ℕ) (p : Progress) (ls : List Bytes) → lines_read most n p ls ≡ told_read most p (numbered n ls)
+read_as_told most n p [] = refl
+read_as_told most n p (l ∷ ls) = go (λ q. read_as_told most (n + 1) q ls) (code_read most p (code l))
+  where
+    go : ((q : Progress) → lines_read most (n + 1) q ls ≡ told_read most q (numbered (n + 1) ls)) → (r : Result Progress R.Cause)
+        → read_on (λ q. lines_read most (n + 1) q ls) (n + 1) r ≡ read_on (λ q. told_read most q (numbered (n + 1) ls)) (n + 1) r
+    go below (Ok q) = below q
+    go below (Err c) = refl

@@ -3,8 +3,7 @@ use Rattle.std.specs.Prelude.{cond, is_some, Ok, Err, Option, Result}
 use Rattle.rules.specs.Orders.{Bytes}
 use Rattle.rules.specs.Paths.{is_path}
 use Rattle.rules.specs.Causes as R
-use Rattle.names.specs.declared.path.Path.{Path}
-use Rattle.names.specs.Paths.{path_bytes}
+use Rattle.names.specs.Paths.{Path, path_bytes}
 use Rattle.causes.specs.declared.cause.Cause.{Cause}
 use Rattle.causes.specs.Told.{cause_of}
 

@@ -11,6 +11,7 @@ use Rattle.causes.specs.Told.{refusal_of, of_place}
 use Rattle.manifest.specs.declared.kinds.Manifest.{Manifest}
 use Rattle.manifest.specs.declared.kinds.Owner.{Owner}
 use Rattle.manifest.specs.declared.kinds.Progress.{Progress}
+use Rattle.manifest.specs.declared.rows.RowsRead.{RowsRead}
 use Rattle.manifest.specs.Holds.{names_read}
 use Rattle.manifest.specs.Owners.{most_rows}
 use Rattle.manifest.specs.Views.{view}
@@ -56,9 +57,9 @@ reading_told (M.manifest m) = Ok m
 reading_told (M.unread c n) = Err (of_place c n)
 
 -- all lines are read, or one is refused
-abbrev pub lines_told : List Row → List Row → Result Progress Refusal → Result M.Manifest R.Refusal
-lines_told required excluded (Ok p) = reading_told (M.at_end (view required excluded p))
-lines_told required excluded (Err f) = Err (refusal_of f)
+abbrev pub lines_told : Progress → RowsRead → RowsRead → Result (Unit {0}) Refusal → Result M.Manifest R.Refusal
+lines_told p required excluded (Ok u) = reading_told (M.at_end (view p required excluded))
+lines_told p required excluded (Err f) = Err (refusal_of f)
 
 -- the end: the block that is open, the module path, and the counts
 abbrev pub finish_of : Option M.Verb → Option Bytes → ℕ → ℕ → Result Counts R.Refusal

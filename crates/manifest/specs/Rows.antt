@@ -9,6 +9,7 @@ use Rattle.modules.specs.declared.rows.Row.{Row}
 use Rattle.modules.specs.Rows.{row_names}
 use Rattle.causes.specs.declared.cause.Cause.{Cause}
 use Rattle.causes.specs.Told.{cause_of}
+use Rattle.manifest.specs.declared.rows.RowsRead.{RowsRead}
 use Rattle.manifest.specs.Holds.{names_read}
 
 abbrev pub row_told : Result Row Cause → Result ModuleVersion R.Cause
@@ -19,10 +20,13 @@ row_told (Err c) = Err (cause_of c)
 abbrev pub row_read : Bytes → Bytes → Result ModuleVersion R.Cause
 row_read m v = cond (is_path m) (cond (is_version v) (Ok (at m v)) (Err R.bad_version)) (Err R.bad_path)
 
--- so many rows stand in a slice
-abbrev pub count_told : List Row → Result ℕ Cause → Result (List ModuleVersion) R.Cause
-count_told rows (Ok n) = Ok (names_read n rows)
-count_told rows (Err c) = Err (cause_of c)
+-- the rows that are read
+abbrev pub rows_read : RowsRead → List ModuleVersion
+rows_read r = names_read r.count r.rows.now
+
+abbrev pub rows_told : RowsRead → Result (Unit {0}) Cause → Result (List ModuleVersion) R.Cause
+rows_told r (Ok u) = Ok (rows_read r)
+rows_told r (Err c) = Err (cause_of c)
 
 -- at most so many rows
 abbrev pub more_rows : ℕ → List ModuleVersion → ModuleVersion → Result (List ModuleVersion) R.Cause

@@ -1,5 +1,5 @@
 -- What the code has read so far, told as the progress of the rules. Assumes nothing.
-use Rattle.std.specs.Prelude.{ℕ, cond, List, Ok, Err, Result}
+use Rattle.std.specs.Prelude.{ℕ, cond, Ok, Err, Result}
 use Rattle.std.specs.Option.{option_map}
 use Rattle.rules.specs.Orders.{Bytes}
 use Rattle.rules.specs.Texts.{every}
@@ -7,25 +7,24 @@ use Rattle.rules.specs.Lines.{words}
 use Rattle.rules.specs.Causes as R
 use Rattle.rules.specs.Manifests as M
 use Rattle.names.specs.Paths.{path_bytes}
-use Rattle.modules.specs.declared.rows.Row.{Row}
 use Rattle.causes.specs.declared.cause.Cause.{Cause}
 use Rattle.causes.specs.Told.{cause_of}
 use Rattle.lexer.specs.Told.{verb_told}
 use Rattle.manifest.specs.declared.kinds.Progress.{Progress}
-use Rattle.manifest.specs.Holds.{names_read}
+use Rattle.manifest.specs.declared.rows.RowsRead.{RowsRead}
+use Rattle.manifest.specs.Rows.{rows_read}
 
--- the rows stand in the two slices
-abbrev pub view : List Row → List Row → Progress → M.Progress
-view required excluded p = record {
+abbrev pub view : Progress → RowsRead → RowsRead → M.Progress
+view p required excluded = record {
   block = option_map verb_told p.block;
   main = option_map path_bytes p.main;
-  requires = names_read p.required required;
-  excludes = names_read p.excluded excluded;
+  requires = rows_read required;
+  excludes = rows_read excluded;
 }
 
-abbrev pub viewed : List Row → List Row → Result Progress Cause → Result M.Progress R.Cause
-viewed required excluded (Ok p) = Ok (view required excluded p)
-viewed required excluded (Err c) = Err (cause_of c)
+abbrev pub viewed : Progress → RowsRead → RowsRead → Result (Unit {0}) Cause → Result M.Progress R.Cause
+viewed p required excluded (Ok u) = Ok (view p required excluded)
+viewed p required excluded (Err c) = Err (cause_of c)
 
 -- one line more, of which the comment is gone
 abbrev pub code_read : ℕ → M.Progress → Bytes → Result M.Progress R.Cause

@@ -6,7 +6,7 @@ use lexer::verbs::Verb;
 use names::path::Path;
 
 // Whose manifest is read: it decides how many require rows there may be.
-#[derive(Clone, Copy)]
+#[derive(Clone, Copy, PartialEq, Eq, Debug)]
 pub enum Owner {
     Source,
     Project,
@@ -20,13 +20,14 @@ pub struct Manifest {
     pub excluded: usize,
 }
 
-// What is read so far: the verb of the block that is open, the module's path once it is read, and how many rows are written.
-#[derive(Clone, Copy)]
+// What is read so far, beside the rows: the verb of the block that is open, and the module's path once it is read.
+// Kept: the rows stand beside it in two structs of their own. A struct that holds both loses what the slices hold in the end: the check
+// follows a lent slice only through a struct of which it is a field itself, under a lifetime of its own. For the same reason no struct stands
+// round the exclude rows to say their limit.
+#[derive(Clone, Copy, PartialEq, Eq, Debug)]
 pub(crate) struct Progress {
     pub(crate) block: Option<Verb>,
     pub(crate) main: Option<Path>,
-    pub(crate) required: usize,
-    pub(crate) excluded: usize,
 }
 
 impl Owner {

@@ -1,41 +1,35 @@
 // Reading a text line by line, in one pass.
-ghost use Rattle.std.specs.Prelude.{◌≡◌, ◌+◌, is_some, if◌then◌else◌};
+ghost use Rattle.std.specs.Prelude.{◌≡◌, ◌+◌, ◌≤◌, length, is_some, if◌then◌else◌};
 ghost use Rattle.std.specs.Option.{option_map};
+ghost use Rattle.std.specs.Iterator.{YieldsFirstBy, item_count};
+ghost use Rattle.std.specs.List.{prefix_len};
 ghost use Rattle.rules.specs.Lines.{lines, code};
-ghost use Rattle.lexer.specs.Cuts.{begins_with_comment, first_line};
-ghost use Rattle.lexer.specs.Lefts.{lines_left, line_told, next_line, but_first};
+ghost use Rattle.lexer.specs.Cuts.{in_line, begins_with_comment};
+ghost use Rattle.lexer.specs.Lefts.{lines_left, line_told, next_line, but_first, lines_ahead};
 
 use super::{Line, Lines};
 
-// What stands before the first line feed, or all.
-fn first_line_of<'a>(rest: &'a [u8]) -> &'a [u8]
-    ensures value { result.now ≡ first_line rest.now }
+// How many bytes stand before the first line feed, or all.
+fn line_length(rest: &[u8]) -> usize
+    ensures value { (result ≡ prefix_len in_line rest.now) × (result ≤ length rest.now) }
 {
-    let mut n = 0;
-    while n < rest.len() && rest[n] != b'\n' {
-        n += 1;
-    }
-    &rest[0..n]
+    rest.iter().take_while(|b| **b != b'\n').count()
 }
 
 fn begins_with_comment(bytes: &[u8]) -> bool
     ensures value { result ≡ begins_with_comment bytes.now }
 {
-    match bytes {
-        [a, b, ..] => *a == b'/' && *b == b'/',
-        _ => false,
-    }
+    matches!(bytes, [b'/', b'/', ..])
 }
 
 // A line without its comment.
 fn code_of<'a>(line: &'a [u8]) -> &'a [u8]
     ensures value { result.now ≡ code line.now }
 {
-    let mut n = 0;
-    while n < line.len() && !begins_with_comment(&line[n..]) {
-        n += 1;
+    match (0..line.len()).find(|n| begins_with_comment(&line[*n..])) {
+        Some(n) => &line[..n],
+        None => line,
     }
-    &line[0..n]
 }
 
 impl<'a> Lines<'a> {
@@ -57,16 +51,26 @@ impl<'a> Lines<'a> {
         ensures items { lines_left self.new ≡ but_first (lines_left self.old) }
         ensures after { self.new.line ≡ self.old.line + (if is_some result then 1 else 0) }
     {
-        if self.at > self.text.len() {
-            return None;
-        }
-        let rest = &self.text[self.at..];
-        let line = first_line_of(rest);
+        let rest = self.text.get(self.at..)?;
+        let line = &rest[..line_length(rest)];
         self.line += 1;
         self.at += line.len() + 1;
         Some(Line {
             number: self.line,
             code: code_of(line),
         })
+    }
+}
+
+// The lines that are left, one after the other.
+impl<'a> Iterator for Lines<'a> {
+    type Item = Line<'a>;
+
+    ghost next_gives = { YieldsFirstBy line_told lines_ahead };
+
+    ghost remaining = { item_count lines_ahead };
+
+    fn next(&mut self) -> Option<Line<'a>> {
+        self.next_line()
     }
 }

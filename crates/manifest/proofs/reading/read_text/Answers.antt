@@ -1,38 +1,34 @@
 -- All lines are read. Assumes nothing.
-use Rattle.std.proofs.Common.{◌≡◌, length, sym, ◌∙◌, ap₂, arith}
+use Rattle.std.proofs.Common.{◌≡◌, length, ap, ◌∙◌, ap₂, rules}
 use Rattle.std.specs.Option.{option_map}
 use Rattle.rules.specs.Lines.{lines}
 use Rattle.rules.specs.Manifests.{Reading, unbegun, lines_read, at_end}
-use Rattle.rules.specs.Slices.{blank, filled}
 use Rattle.names.specs.Paths.{path_bytes}
 use Rattle.lexer.specs.Told.{verb_told}
-use Rattle.manifest.specs.Holds.{names_read}
+use Rattle.manifest.specs.Outcomes.{outcome, reading_told, finish_of}
 use Rattle.manifest.specs.Views.{view}
-use Rattle.manifest.proofs.Held.{names_long, filled_up}
-use Rattle.manifest.proofs.Ended.{same_counts, same_requires, same_excludes, finished, rows_left, made_on}
+use Rattle.manifest.proofs.Ended.{none_read, end_counted, end_left}
 use Rattle.manifest.proofs.reading.read_text.Goals as goal
 
-pub returns-in-Ok : goal.returns-in-Ok
-returns-in-Ok c =
-    let p = c.in-Ok.progress in
+pub returns : goal.returns
+returns c =
+    let most = c.args.most in
+    let ls = lines c.args.text.now in
+    let required = c.new-required in
+    let excluded = c.new-excluded in
+    let p = c.read_lines.new.self in
     let rs = c.read_lines.new.required in
     let es = c.read_lines.new.excluded in
-    let most = c.args.most in
-    let h = c.in-Ok.ensures.items in
-    let block = option_map verb_told p.block in
-    let main = option_map path_bytes p.main in
-    let xs = names_read p.required rs in
-    let ys = names_read p.excluded es in
-    let end = at_end (view rs es p) in
-    let all : Reading = lines_read most 0 unbegun (lines c.args.text.now) in
-    let n : length rs ≡ length c.args.required.now = omega arith in
-    let j : length es ≡ length c.args.excluded.now = omega arith in
-    let same = c.in-Ok.ensures.value in
-    let told = c.finish.ensures.value ∙ finished block main xs ys p.required p.excluded (names_long most p.required rs h.0) (names_long 32 p.excluded es h.1) in
+    let all : Reading = lines_read most 0 unbegun ls in
+    let none = none_read required.result excluded.result required.ensures.value.0 excluded.ensures.value.0 in
+    let same : reading_told (at_end (view p rs es)) ≡ reading_told all =
+    c.in_ok-read_lines.ensures.value ∙ ap₂ (λ n q. reading_told (lines_read n 0 q ls)) required.ensures.value.1 none
+    in
+    let told : outcome c.finish.result ≡ finish_of (option_map verb_told p.block) (option_map path_bytes p.main) rs.count es.count =
+    c.finish.ensures.value ∙ ap₂ (finish_of (option_map verb_told p.block) (option_map path_bytes p.main)) c.count.ensures.value c.count-2.ensures.value
+    in
     record {
-      value = told ∙ same_counts end all same;
-      items = made_on c.finish.result (λ k. (
-        filled_up most p.required rs h.0 ∙ ap₂ (filled blank) n (sym k.0 ∙ same_requires end all same),
-        filled_up 32 p.excluded es h.1 ∙ ap₂ (filled blank) j (sym k.1 ∙ same_excludes end all same),
-      )) (rows_left c.finish.result block main xs ys told);
+      value = end_counted p rs es c.finish.result all same told;
+      items = end_left p rs es c.finish.result all same told _ _ _ _ (search rules) (search rules)
+          (c.read_lines.ensures.room.0 ∙ ap length required.ensures.same) (c.read_lines.ensures.room.1 ∙ ap length excluded.ensures.same);
     }

@@ -27,5 +27,5 @@ returns-in-41 c =
 pub returns-in_default : goal.returns-in_default
 returns-in_default c =
     let self = c.args.self.now in
-    let on = at_text self.rest.now _ _ refl c.gap_length-gaps.ensures.value.0 c.word_length-long.result (search rules) (search rules) (search rules) c.word_length-long.ensures.value.0 in
-    record { value = sym (ap (next_word self.line) on); items = sym (ap but_first on); same = refl }
+    let on = at_text self.rest.now _ _ refl c.gap_length-gaps.ensures.value.0 c.word_length.result (search rules) (search rules) (search rules) c.word_length.ensures.value.0 in
+    rw (c.split_at.ensures.front, c.split_at.ensures.back) (record { value = sym (ap (next_word self.line) on); items = sym (ap but_first on); same = refl })

@@ -2,7 +2,7 @@
 use Rattle.std.proofs.Common.{length, replicate, ap, ◌∙◌}
 use Rattle.manifest.specs.Holds.{names_in}
 use Rattle.manifest.proofs.Held.{names_replicate}
-use Rattle.manifest.proofs.rows.blank_all.Goals as goal
+use Rattle.manifest.proofs.rows.adding.blank_all.Goals as goal
 
 pub returns : goal.returns
 returns c =
