@@ -1,7 +1,7 @@
 -- One version more in a listing of at most 64. Assumes nothing.
 use Rattle.std.proofs.Common.{◌≡◌, ℕ, ◌≤◌, Bool, true, false, cond, ltb, leb, List, [], ◌∷◌, length, Some, None, Ok, Err, Option, Result, sym, refl, ap, ◌∙◌, arith}
 use Rattle.std.specs.Bool.{then_some}
-use Rattle.std.proofs.lemmas.List.{length-map, length-take-le}
+use Rattle.std.proofs.lemmas.List.{length-map}
 use Rattle.std.proofs.lemmas.Bool.{ltb-true, ltb-false, leb-false, le-leb, lt-leb}
 use Rattle.rules.specs.Orders.{Bytes}
 use Rattle.rules.specs.Versions.{version_order}
@@ -12,7 +12,7 @@ use Rattle.rules.specs.Sources.{Answer, found, fault, found_in, narrowed, over_6
 use Rattle.rules.specs.Tables.{keep, lookup, entered, entered_all}
 use Rattle.rules.specs.Rows.{own}
 use Rattle.rules.proofs.Tables.{entered_most, entered_all_least}
-use Rattle.ordered.specs.Held.{admitted, fitting, held}
+use Rattle.ordered.specs.Held.{admitted, fitting}
 use Rattle.ordered.specs.declared.table.NotInserted.{NotInserted}
 use Rattle.ordered.specs.declared.table.NotInserted.TheVariants.{Present, Full}
 use Rattle.ordered.proofs.Joining.{joined_same, joined_over}
@@ -24,9 +24,7 @@ use Rattle.bottoms.specs.Items.{with_version, entered_held, listing_answer}
 
 -- a listing has at most 64 versions
 pub listing_fits : (t : Listing) → length (listing_bytes t) ≤ 64
-listing_fits t =
-    let fits = t.table.fits in
-    omega (arith, fits.0, fits.1, length-map (held t.table) plain_version_bytes, length-take-le t.table.count t.table.items (omega (arith, fits.0, fits.1)))
+listing_fits t = omega (arith, t.fits, length-map t.table plain_version_bytes)
 
 module _ (v : Bytes) (t : List Bytes) where
   abbrev with_one : List Bytes

@@ -1,5 +1,5 @@
 // The versions of a path, as they are found one by one: at most 64, ascending, each once.
-ghost use Rattle.std.specs.Prelude.{◌≡◌, map, length, if◌then◌else◌, nat_le};
+ghost use Rattle.std.specs.Prelude.{◌≡◌, map, length, if◌then◌else◌, is_ok, nat_le};
 ghost use Rattle.std.specs.Option.{option_map};
 ghost use Rattle.rules.specs.Questions.{told};
 ghost use Rattle.rules.specs.Rows.{own};
@@ -15,32 +15,22 @@ use causes::cause::Cause;
 use modules::listing::Listing;
 use ordered::table::NotInserted;
 use source::fault::{Fault, Found};
-use source::slices::{lay, refuse};
+use source::slices::{check_room, lay, refuse};
 use versions::version::PlainVersion;
 
-// How many versions a listing may have, and how many places a slice must have.
-const MOST: usize = 64;
-
-// Enters a version, and says whether there is room for it. Without room nothing changes.
-fn list_version(listing: &mut Listing, version: PlainVersion) -> bool
-    ensures value { result ≡ nat_le (length (entered own version_order keep (plain_version_bytes version) (listing_bytes listing.old))) 64 }
-    ensures after { listing_bytes listing.new ≡ (if result then entered own version_order keep (plain_version_bytes version) (listing_bytes listing.old) else listing_bytes listing.old) }
+// Enters a version, if one is held. Where there is no room for it nothing changes.
+pub fn list_held(listing: &mut Listing, held: Option<PlainVersion>) -> Result<(), NotInserted>
+    ensures value { is_ok result ≡ nat_le (length (entered_held (option_map plain_version_bytes held) (listing_bytes listing.old))) 64 }
+    ensures after { listing_bytes listing.new ≡ (if is_ok result then entered_held (option_map plain_version_bytes held) (listing_bytes listing.old) else listing_bytes listing.old) }
 {
+    let Some(version) = held else {
+        return Ok(());
+    };
+    // Kept: in one arm for both answers that mean success, what each of them promised would be lost.
     match listing.add(version) {
-        Ok(()) => true,
-        Err(NotInserted::Present) => true,
-        Err(NotInserted::Full) => false,
-    }
-}
-
-// The same with a version if one is held; else there is room.
-pub fn list_held(listing: &mut Listing, held: Option<PlainVersion>) -> bool
-    ensures value { result ≡ nat_le (length (entered_held (option_map plain_version_bytes held) (listing_bytes listing.old))) 64 }
-    ensures after { listing_bytes listing.new ≡ (if result then entered_held (option_map plain_version_bytes held) (listing_bytes listing.old) else listing_bytes listing.old) }
-{
-    match held {
-        Some(version) => list_version(listing, version),
-        None => true,
+        Ok(()) => Ok(()),
+        Err(NotInserted::Present) => Ok(()),
+        Err(NotInserted::Full) => Err(NotInserted::Full),
     }
 }
 
@@ -53,9 +43,7 @@ pub fn answer_listing(
     ensures items { map plain_version_bytes versions.new ≡ (told blank_version (length versions.old) (listing_answer (option_map listing_bytes listing))).slice }
 {
     let blank = PlainVersion::blank();
-    if versions.len() < MOST {
-        return refuse(versions, blank, Cause::SliceTooShort);
-    }
+    check_room(versions, blank)?;
     let Some(listing) = listing else {
         return refuse(versions, blank, Cause::TooManyToList);
     };

@@ -11,10 +11,9 @@ pub enum Kind {
     Tree,
 }
 
-// One of the two is in use; the other is empty or of an earlier opening.
+// Kept: a shelf and a tree are two types, each with its own invariant and meaning; what they do alike is done by `bottoms::pairs`.
 #[derive(Clone, Copy)]
-pub struct Buffer<'a> {
-    kind: Kind,
-    shelf: Shelf<'a>,
-    tree: Tree<'a>,
+pub enum Buffer<'a> {
+    Shelf(Shelf<'a>),
+    Tree(Tree<'a>),
 }

@@ -1,9 +1,14 @@
 -- Opening, one piece after the other. Assumes nothing.
-use Rattle.std.proofs.Common.{◌≡◌, ℕ, ◌+◌, ◌-◌, ◌<◌, ◌≤◌, Bool, true, false, cond, length, Some, None, Ok, Err, Result, sym, ap, ◌∙◌, arith}
+use Rattle.std.proofs.Common.{◌≡◌, ℕ, ◌+◌, ◌-◌, ◌<◌, ◌≤◌, Bool, true, false, cond, length, Some, None, Ok, Err, Result, sym, refl, ap, ◌∙◌, subst, arith}
 use Rattle.std.proofs.lemmas.List.{nil_from_length}
 use Rattle.std.proofs.lemmas.Bool.{cond-true, cond-false, le-leb, lt-leb}
+use Rattle.std.specs.Result.{MatchResult, IsErrAnd}
 use Rattle.rules.specs.Orders.{Bytes}
 use Rattle.rules.specs.Causes.{Cause, too_long, damaged_buffer}
+use Rattle.causes.specs.declared.cause.Cause.{Cause as ToldBy}
+use Rattle.causes.specs.declared.refusal.Refusal.{Refusal}
+use Rattle.causes.specs.Told.{cause_of, refusal_of, of_place}
+use Rattle.fields.specs.Views.{next_of}
 use Rattle.fields.specs.Fields.{Cut, field_of, pieces}
 use Rattle.fields.specs.Openings.{Opening, refused_at, opened_on, opened_from, opened}
 use Rattle.fields.proofs.Pieces.{field_size, pieces_whole, pieces_torn, pieces_none}
@@ -57,3 +62,21 @@ module _ {W : Type 0} (follow : W → ℕ → Bytes → Result W Cause) (may_end
     pub opened_long : 65536 < length bs → opened follow may_end start bs ≡ refused_at 0 too_long
     unfolding opened
     opened_long h = cond-false _ _ _ (lt-leb _ _ h)
+
+-- what a cause becomes at a place
+module _ {W : Type 0} (place : ℕ) (r : Result W ToldBy) (m : Result W Refusal) (post : ToldBy → Refusal → Type 0)
+    (tells : (c : ToldBy) (d : Refusal) → post c d → refusal_of d ≡ of_place (cause_of c) place)
+    (cases : MatchResult r (λ w. m ≡ Ok w) (λ c. IsErrAnd m (post c))) where
+  pub went_on : (w : W) → m ≡ Ok w → Ok w ≡ next_of r
+  went_on w e = go r cases
+    where
+      go : (q : Result W ToldBy) → MatchResult q (λ v. m ≡ Ok v) (λ c. IsErrAnd m (post c)) → Ok w ≡ next_of q
+      go (Ok v) h = let f = sym e ∙ h in let same : w ≡ v = cc in ap Ok same
+      go (Err c) h = absurd (subst (λ z. IsErrAnd z (post c)) e h)
+
+  pub stopped : (d : Refusal) → m ≡ Err d → (c : Cause) × (Err c ≡ next_of r) × (refusal_of d ≡ of_place c place)
+  stopped d e = go r cases
+    where
+      go : (q : Result W ToldBy) → MatchResult q (λ v. m ≡ Ok v) (λ c. IsErrAnd m (post c)) → (c : Cause) × (Err c ≡ next_of q) × (refusal_of d ≡ of_place c place)
+      go (Ok v) h = let z : ◌≡◌ {A = ℕ} 0 1 = cc in absurd (omega arith)
+      go (Err c) h = (cause_of c, refl, tells c d (subst (λ z. IsErrAnd z (post c)) e h))

@@ -16,7 +16,8 @@ cut_of f = record { tag = f.tag; body = f.body.now; after = f.after.now }
 abbrev pub pair_cut_of : Pair → PairCut
 pair_cut_of p = record { pair = record { tag = p.tag; first = p.first.now; second = p.second.now }; after = p.after.now }
 
-abbrev pub opening_of : Result (Unit {0}) Refusal → Opening
+-- what is opened, or why it is refused
+abbrev pub opening_of : {A : Type 0} → Result A Refusal → Opening
 opening_of (Ok x) = Ok tt
 opening_of (Err f) = Err (refusal_of f)
 

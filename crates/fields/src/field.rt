@@ -12,19 +12,18 @@ pub struct Field<'a> {
 }
 
 // The first field, if a whole one stands there.
+// Kept: the pattern with its else, which names the tag, the two length bytes and the rest.
 pub fn first_field<'a>(bytes: &'a [u8]) -> Option<Field<'a>>
     ensures value { option_map cut_of result ≡ field_of bytes.now }
 {
     let [tag, high, low, rest @ ..] = bytes else {
         return None;
     };
-    let size = *high as usize * 256 + *low as usize;
-    if size > rest.len() {
-        return None;
-    }
+    let size = u16::from_be_bytes([*high, *low]) as usize;
+    let (body, after) = rest.split_at_checked(size)?;
     Some(Field {
         tag: *tag,
-        body: &rest[0..size],
-        after: &rest[size..],
+        body,
+        after,
     })
 }

@@ -2,7 +2,6 @@
 // both kinds of buffer fields come in pairs: a path and a version, or a file name and a body.
 #![tactic(auto)]
 
-pub mod bytes;
 pub mod field;
 pub mod opening;
 pub mod pair;

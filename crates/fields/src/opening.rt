@@ -38,13 +38,10 @@ pub fn open_buffer<N: Next>(start: N, bytes: &[u8]) -> Result<(), Refusal>
     let mut rest = bytes;
     while !rest.is_empty() {
         let place = bytes.len() - rest.len();
-        let Some(field) = first_field(rest) else {
-            return Err(Refusal::at(Cause::DamagedBuffer, place));
-        };
-        match next.behind(field.tag, field.body) {
-            Ok(behind) => next = behind,
-            Err(cause) => return Err(Refusal::at(cause, place)),
-        }
+        let field = first_field(rest).ok_or(Refusal::at(Cause::DamagedBuffer, place))?;
+        next = next
+            .behind(field.tag, field.body)
+            .map_err(|cause| Refusal::at(cause, place))?;
         rest = field.after;
     }
     if next.may_end() {

@@ -19,12 +19,8 @@ pub struct Pair<'a> {
 pub fn first_pair<'a>(bytes: &'a [u8]) -> Option<Pair<'a>>
     ensures value { option_map pair_cut_of result ≡ pair_of bytes.now }
 {
-    let Some(first) = first_field(bytes) else {
-        return None;
-    };
-    let Some(second) = first_field(first.after) else {
-        return None;
-    };
+    let first = first_field(bytes)?;
+    let second = first_field(first.after)?;
     Some(Pair {
         tag: first.tag,
         first: first.body,

@@ -1,5 +1,6 @@
 -- What a table of exclusions answers to one more, by its cause. Assumes nothing.
 use Rattle.std.proofs.Common.{◌≡◌, ℕ, Bool, cond, ltb, leb, List, length, is_some, Some, None, Ok, Err, Option, Result, sym, ap, ◌∙◌, ⊎_elim}
+use Rattle.std.specs.Result.{MatchResult, IsErrAnd}
 use Rattle.std.proofs.lemmas.Bool.{cases_lt, lt-ltb, le-ltb, le-leb, lt-leb}
 use Rattle.rules.specs.Names.{ModuleVersion, module_order, has}
 use Rattle.rules.specs.Rows.{own, AscendingExclusions}
@@ -14,6 +15,13 @@ use Rattle.layers.proofs.Lookups.{lookup_has}
 abbrev pub by_cause : Result (Unit {0}) NotInserted → Result (Unit {0}) Cause
 by_cause (Ok u) = Ok u
 by_cause (Err refused) = Err (refusal_cause refused)
+
+-- each refusal by its cause
+pub mapped_by : (r : Result (Unit {0}) NotInserted) (m : Result (Unit {0}) Cause) (post : NotInserted → Cause → Type 0) → ((e : NotInserted) (d : Cause) → post e d → d ≡ refusal_cause e)
+    → MatchResult r (λ x. m ≡ Ok x) (λ e. IsErrAnd m (post e)) → m ≡ by_cause r
+mapped_by (Ok u) m post tells h = h
+mapped_by (Err e) (Ok u) post tells h = absurd h
+mapped_by (Err e) (Err d) post tells h = ap Err (tells e d h)
 
 abbrev in_room : Bool → Result (Unit {0}) Cause
 in_room full = cond full (Err TableFull) (Ok tt)

@@ -1,17 +1,14 @@
 -- Listings joined, where that is at most 64 versions and where it is not. Assumes nothing.
-use Rattle.std.proofs.Common.{◌≡◌, ℕ, ◌-◌, ◌<◌, ◌≤◌, Bool, true, false, cond, leb, List, [], map, length, take, Some, None, sym, refl, ap, ◌∙◌, subst, arith}
+use Rattle.std.proofs.Common.{◌≡◌, ℕ, ◌<◌, ◌≤◌, Bool, true, false, cond, leb, List, [], length, Some, None, sym, refl, ap, ◌∙◌, arith}
 use Rattle.std.specs.Bool.{then_some}
-use Rattle.std.proofs.lemmas.List.{length-map}
 use Rattle.std.proofs.lemmas.Bool.{le-leb, leb-true, leb-false, le-ltb, lt-ltb}
 use Rattle.rules.specs.Orders.{Bytes}
 use Rattle.rules.specs.Versions.{version_order}
 use Rattle.rules.specs.Rows.{own, AscendingVersions, joined_versions}
-use Rattle.rules.specs.Sources.{found, fault, Meaning, Lawful, passed_up, both_listed, at_most_64, over_64, falling_back}
+use Rattle.rules.specs.Sources.{found, fault, Meaning, passed_up, both_listed, at_most_64, over_64, falling_back}
 use Rattle.rules.proofs.Order.{versions, laws_of}
 use Rattle.rules.proofs.Tables.{tables_right}
 use Rattle.ordered.specs.Held.{fitting}
-use Rattle.versions.specs.Values.{plain_version_bytes}
-use Rattle.versions.specs.declared.version.PlainVersion.{PlainVersion}
 
 -- versions that ascend, joined to nothing, are those versions
 pub joined_whole : (none vs : List Bytes) → none ≡ [] → AscendingVersions vs → length vs ≤ 64 → fitting 64 (joined_versions none vs) ≡ Some vs
@@ -38,22 +35,6 @@ few_listed xs h = ap (λ b. cond b (fault over_64) (found xs)) (le-ltb 64 (lengt
 
 pub many_listed : (xs : List Bytes) → 64 < length xs → at_most_64 (found xs) ≡ fault over_64
 many_listed xs h = ap (λ b. cond b (fault over_64) (found xs)) (lt-ltb 64 (length xs) h)
-
--- what a lawful source listed, in the part of a slice that is read
-module _ (m : Meaning) (law : Lawful m) (p : Bytes) (items : List PlainVersion) (k : ℕ) (e : m.listing p ≡ found (map plain_version_bytes (take k items))) where
-  whole_part : k - 0 ≡ k
-  whole_part = omega arith
-
-  pub part_few : length (take (k - 0) items) ≤ 64
-  part_few =
-      let few : length (take k items) ≤ 64 = omega (arith, law.few_versions p _ e, length-map (take k items) plain_version_bytes) in
-      subst (λ i. length (take i items) ≤ 64) (sym whole_part) few
-
-  pub part_ascends : AscendingVersions (map plain_version_bytes (take (k - 0) items))
-  part_ascends = subst (λ i. AscendingVersions (map plain_version_bytes (take i items))) (sym whole_part) (law.ascending p _ e)
-
-  pub part_whole : map plain_version_bytes (take (k - 0) items) ≡ map plain_version_bytes (take k items)
-  part_whole = ap (λ i. map plain_version_bytes (take i items)) whole_part
 
 pub both_found : (a b : Meaning) (p : Bytes) (us vs ws : List Bytes) → us ≡ vs → a.listing p ≡ found vs → b.listing p ≡ found ws → at_most_64 (found (joined_versions us ws)) ≡ (falling_back a b).listing p
 both_found a b p us vs ws u e f =

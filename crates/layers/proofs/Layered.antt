@@ -1,13 +1,15 @@
 -- What the exclude layer means, from what the source below it told. Assumes nothing.
-use Rattle.std.proofs.Common.{◌≡◌, Bool, true, false, cond, not, List, [], ◌∷◌, map, filter, sym, refl, ap, ◌∙◌}
+use Rattle.std.proofs.Common.{◌≡◌, Bool, true, false, cond, not, List, [], ◌∷◌, map, filter, Ok, Err, Result, sym, refl, ap, ◌∙◌, subst}
+use Rattle.std.specs.Result.{MatchResult, IsErrAnd}
 use Rattle.rules.specs.Orders.{Bytes}
 use Rattle.rules.specs.Names.{ModuleVersion, at, has}
 use Rattle.rules.specs.Sources.{found, fault, Meaning, narrowed, passed_up, missing_here, included, excluding}
-use Rattle.versions.specs.Values.{plain_version_bytes}
-use Rattle.versions.specs.declared.version.PlainVersion.{PlainVersion}
+use Rattle.versions.specs.Values.{PlainVersion, plain_version_bytes}
 use Rattle.modules.specs.Rows.{row_names}
 use Rattle.modules.specs.declared.rows.Row.{Row}
 use Rattle.source.specs.Insides.{Inside}
+use Rattle.source.specs.declared.fault.Fault.{Fault}
+use Rattle.source.specs.declared.fault.Found.{Found}
 
 pub kept_map : {R X : Type 0} (f : R → X) (test : X → Bool) (xs : List R) → map f (filter (λ x. test (f x)) xs) ≡ filter test (map f xs)
 kept_map f test [] = refl
@@ -39,3 +41,8 @@ module _ (es : List ModuleVersion) (m : Meaning) where
   excluded_listing p vs e =
       ap (λ a. passed_up (narrowed (filter (λ v. not (has es (at p v)))) a)) e
       ∙ ap found (sym (kept_map plain_version_bytes (λ v. not (has es (at p v))) vs))
+
+-- what is found below comes up as it is
+pub found_below : (r m : Result Found Fault) (post : Fault → Fault → Type 0) → MatchResult r (λ x. m ≡ Ok x) (λ e. IsErrAnd m (post e)) → (x : Found) → m ≡ Ok x → r ≡ Ok x
+found_below (Ok y) m post h x e = sym h ∙ e
+found_below (Err f) m post h x e = absurd (subst (λ z. IsErrAnd z (post f)) e h)

@@ -20,7 +20,7 @@ use modules::rows::{ModuleVersion, Row};
 use names::path::Path;
 use source::fault::{Fault, Found};
 use source::questions::{ListingSource, Source};
-use source::slices::refuse;
+use source::slices::{check_room, refuse};
 use versions::version::PlainVersion;
 
 #[derive(Drop)]
@@ -78,6 +78,7 @@ impl<S> Exclude<S> {
     }
 }
 
+// Kept: the trait's clauses stand here again, since a method that promises more than its trait has to repeat them.
 impl<S: Source> Source for Exclude<S> {
     ghost meaning = { exclude_meaning S.Source.meaning };
 
@@ -93,19 +94,13 @@ impl<S: Source> Source for Exclude<S> {
         ensures below { S.Source.meaning self.new.below ≡ S.Source.meaning self.old.below }
         ensures table { self.new.exclusions ≡ self.old.exclusions }
     {
-        if rows.len() < 64 {
-            return refuse(rows, Row::blank(), Cause::SliceTooShort);
-        }
+        check_room(rows, Row::blank())?;
         if is_excluded(&self.exclusions, &of.row()) {
             return refuse(rows, Row::blank(), Cause::Missing);
         }
-        match self.below.requirements(of, rows) {
-            Ok(found) => {
-                let count = keep(rows, found.count, &self.exclusions, Row::blank());
-                Ok(Found { count })
-            }
-            Err(fault) => Err(fault.deeper()),
-        }
+        let found = self.below.requirements(of, rows).map_err(Fault::deeper)?;
+        let count = keep(rows, found.count, &self.exclusions, Row::blank());
+        Ok(Found { count })
     }
 }
 
@@ -118,19 +113,13 @@ impl<S: ListingSource> ListingSource for Exclude<S> {
         ensures below { S.Source.meaning self.new.below ≡ S.Source.meaning self.old.below }
         ensures table { self.new.exclusions ≡ self.old.exclusions }
     {
-        if versions.len() < 64 {
-            return refuse(versions, PlainVersion::blank(), Cause::SliceTooShort);
-        }
-        match self.below.versions(of, versions) {
-            Ok(found) => {
-                let others = OfPath {
-                    path: of.plain(),
-                    exclusions: &self.exclusions,
-                };
-                let count = keep(versions, found.count, &others, PlainVersion::blank());
-                Ok(Found { count })
-            }
-            Err(fault) => Err(fault.deeper()),
-        }
+        check_room(versions, PlainVersion::blank())?;
+        let found = self.below.versions(of, versions).map_err(Fault::deeper)?;
+        let others = OfPath {
+            path: of.plain(),
+            exclusions: &self.exclusions,
+        };
+        let count = keep(versions, found.count, &others, PlainVersion::blank());
+        Ok(Found { count })
     }
 }

@@ -24,6 +24,7 @@ pub fn is_excluded(exclusions: &Exclusions, row: &Row) -> bool
 }
 
 // Why a table takes no item more.
+// Kept: no From, since neither type is of this crate.
 pub fn cause_of(refused: NotInserted) -> Cause
     ensures value { result ≡ refusal_cause refused }
 {
@@ -39,10 +40,7 @@ pub fn exclude_row(exclusions: &mut Exclusions, row: Row) -> Result<(), Cause>
     ensures after { is_ok result ≡ true → exclusion_names exclusions.new ≡ with_exclusion (row_names row) (exclusion_names exclusions.old) }
     ensures refused { is_ok result ≡ false → exclusions.new ≡ exclusions.old }
 {
-    match exclusions.add(row) {
-        Ok(()) => Ok(()),
-        Err(refused) => Err(cause_of(refused)),
-    }
+    exclusions.add(row).map_err(cause_of)
 }
 
 // Passes the rows that are no exclusions.

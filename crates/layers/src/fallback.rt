@@ -10,12 +10,11 @@ ghost use Rattle.layers.specs.Falling.{fallback_meaning, fallback_inside};
 ghost use Rattle.layers.specs.Laws.{falling_back_lawful};
 
 use crate::joining::{lay_joined, listing_of};
-use causes::cause::Cause;
 use modules::rows::{ModuleVersion, Row};
 use names::path::Path;
 use source::fault::{Fault, Found};
 use source::questions::{ListingSource, Source};
-use source::slices::refuse;
+use source::slices::check_room;
 use versions::version::PlainVersion;
 
 #[derive(Drop)]
@@ -33,6 +32,7 @@ impl<F, S> Fallback<F, S> {
     }
 }
 
+// Kept: the trait's clauses stand here again, since a method that promises more than its trait has to repeat them.
 impl<F: Source, S: Source> Source for Fallback<F, S> {
     ghost meaning = { fallback_meaning F.Source.meaning S.Source.meaning };
 
@@ -48,19 +48,12 @@ impl<F: Source, S: Source> Source for Fallback<F, S> {
         ensures first { F.Source.meaning self.new.first ≡ F.Source.meaning self.old.first }
         ensures second { S.Source.meaning self.new.second ≡ S.Source.meaning self.old.second }
     {
-        if rows.len() < 64 {
-            return refuse(rows, Row::blank(), Cause::SliceTooShort);
-        }
-        let fault = match self.first.requirements(of, rows) {
-            Ok(found) => return Ok(found),
-            Err(fault) => fault,
-        };
-        if !fault.is_missing() {
-            return Err(fault.deeper());
-        }
-        match self.second.requirements(of, rows) {
-            Ok(found) => Ok(found),
-            Err(fault) => Err(fault.deeper()),
+        check_room(rows, Row::blank())?;
+        match self.first.requirements(of, rows) {
+            Err(fault) if fault.is_missing() => {
+                self.second.requirements(of, rows).map_err(Fault::deeper)
+            }
+            answer => answer.map_err(Fault::deeper),
         }
     }
 }
@@ -74,17 +67,10 @@ impl<F: ListingSource, S: ListingSource> ListingSource for Fallback<F, S> {
         ensures first { F.Source.meaning self.new.first ≡ F.Source.meaning self.old.first }
         ensures second { S.Source.meaning self.new.second ≡ S.Source.meaning self.old.second }
     {
-        if versions.len() < 64 {
-            return refuse(versions, PlainVersion::blank(), Cause::SliceTooShort);
-        }
-        let count = match self.first.versions(of, versions) {
-            Ok(found) => found.count,
-            Err(fault) => return Err(fault.deeper()),
-        };
-        let listing = listing_of(&versions[0..count]);
-        match self.second.versions(of, versions) {
-            Ok(found) => lay_joined(&listing, versions, found.count),
-            Err(fault) => Err(fault.deeper()),
-        }
+        check_room(versions, PlainVersion::blank())?;
+        let found = self.first.versions(of, versions).map_err(Fault::deeper)?;
+        let listing = listing_of(&versions[..found.count]);
+        let others = self.second.versions(of, versions).map_err(Fault::deeper)?;
+        lay_joined(&listing, versions, others.count)
     }
 }

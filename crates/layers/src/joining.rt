@@ -20,10 +20,7 @@ pub(crate) fn listing_of(versions: &[PlainVersion]) -> Listing
     requires ascending { AscendingVersions (map plain_version_bytes versions.now) }
     ensures value { listing_bytes result ≡ map plain_version_bytes versions.now }
 {
-    match Listing::new().join(versions) {
-        Some(listing) => listing,
-        None => unreachable(),
-    }
+    Listing::new().join(versions).unwrap()
 }
 
 // A listing and the first `count` versions of a slice, joined in the slice.

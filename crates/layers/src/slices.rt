@@ -4,7 +4,7 @@ ghost use Rattle.rules.specs.Slices.{filled};
 
 use source::slices::blank_from;
 
-// A test of items.
+// A test of items. Kept: what a closure answers is told by a relation, and the clauses of `keep` filter by a function.
 pub(crate) trait Test<T> {
     ghost passes: { Self → T → Bool };
 
@@ -23,6 +23,7 @@ pub(crate) fn keep<T: Copy, P: Test<T>>(
     ensures value { result ≡ length (filter (P.Test.passes passing.now) (take count items.old)) }
     ensures items { items.new ≡ filled blank (length items.old) (filter (P.Test.passes passing.now) (take count items.old)) }
 {
+    // Kept: the items move within the slice, so that no iterator over it can give them.
     let mut passed = 0;
     for i in 0..count {
         let item = items[i];

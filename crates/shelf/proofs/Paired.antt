@@ -4,7 +4,7 @@ use Rattle.std.specs.Option.{option_map}
 use Rattle.std.specs.Bool.{then_some}
 use Rattle.std.specs.Str.{bytes_eq}
 use Rattle.std.proofs.lemmas.List.{append_assoc, append-nil, length-append, length-map, length-take-le, map-append, map-set, take-map, take_more_set}
-use Rattle.std.proofs.lemmas.Bool.{cond-true, cond-false, leb-true, le-leb, and_parts, and_from, true≢false}
+use Rattle.std.proofs.lemmas.Bool.{cond-true, leb-true, le-leb, and_parts, and_from, true≢false}
 use Rattle.rules.specs.Orders.{Bytes}
 use Rattle.rules.specs.Texts.{slash, every, pieces as cut_at}
 use Rattle.rules.specs.Paths.{is_element, is_path}
@@ -14,6 +14,7 @@ use Rattle.rules.specs.Slices.{blank, filled}
 use Rattle.fields.specs.Pairs.{Pair, pairs_in, PairCut, pair_of}
 use Rattle.fields.proofs.Pieces.{pairs_some, pairs_none, pair_size}
 use Rattle.rules.specs.Sources.{found, fault, missing_here}
+use Rattle.bottoms.specs.Seeking.{Seen, first_from}
 use Rattle.bottoms.specs.Items.{first_of, answered, with_version, versions_in}
 use Rattle.shelf.specs.Grammar.{tag_M, tag_R}
 use Rattle.shelf.specs.Records.{Record, named, rows_at, records, are_names, is_record_of, record_answer, record_version, heads, head_version, row_cut, record_rows}
@@ -39,11 +40,16 @@ module _ (x : ModuleVersion) (q : Pair) (qs : List Pair) where
       go true = by_names (are_names x (named q))
       go false = refl
 
-  pub record_here : heads x q ≡ true → option_map record_rows (first_of is_record_of x (records (q ∷ qs))) ≡ Some (rows_at qs)
-  record_here h = one_record ∙ cond-true _ _ _ h
-
-  pub record_later : heads x q ≡ false → option_map record_rows (first_of is_record_of x (records (q ∷ qs))) ≡ option_map record_rows (first_of is_record_of x (records qs))
-  record_later h = one_record ∙ cond-false _ _ _ h
+-- the record of the first pair that heads one of the module version is its first record
+pub record_sought : (x : ModuleVersion) (qs : List Pair) → option_map (λ (s : Seen). rows_at s.after) (first_from (heads x) qs) ≡ option_map record_rows (first_of is_record_of x (records qs))
+record_sought x [] = refl
+record_sought x (q ∷ qs) = by_head (heads x q) (record_sought x qs) ∙ sym (one_record x q qs)
+  where
+    by_head : (b : Bool) → option_map (λ (s : Seen). rows_at s.after) (first_from (heads x) qs) ≡ option_map record_rows (first_of is_record_of x (records qs))
+        → option_map (λ (s : Seen). rows_at s.after) (cond b (Some (record { pair = q; after = qs })) (first_from (heads x) qs))
+        ≡ cond b (Some (rows_at qs)) (option_map record_rows (first_of is_record_of x (records qs)))
+    by_head true e = refl
+    by_head false e = e
 
 -- ---- versions
 
@@ -55,6 +61,10 @@ one_version p q qs = go (eqb q.tag tag_M)
         ≡ with_version (then_some (b && bytes_eq q.first p) q.second) (versions_in record_version p (records qs))
     go true = refl
     go false = refl
+
+pub versions_held : (p : Bytes) (qs : List Pair) → versions_in head_version p qs ≡ versions_in record_version p (records qs)
+versions_held p [] = refl
+versions_held p (q ∷ qs) = ap (with_version (head_version p q)) (versions_held p qs) ∙ sym (one_version p q qs)
 
 -- ---- rows
 
@@ -118,14 +128,6 @@ pub blanks_behind : {A : Type 0} (f : A → ModuleVersion) (n k : ℕ) (out done
 blanks_behind f n k out done b rs e none size front long =
     ap (map f) e ∙ map-append f (take k out) (replicate (length out - k) b)
     ∙ ap₂ ◌++◌ (sym (take-map f k out) ∙ front) (map_replicate f (length out - k) b ∙ ap₂ replicate (ap₂ ◌-◌ long size) none)
-
--- ---- the versions of what is left
-
-pub versions_left : (path bs : Bytes) (p : PairCut) → Some p ≡ pair_of bs → (o : Option Bytes) → o ≡ head_version path p.pair
-    → versions_in record_version path (records (pairs_in bs)) ≡ with_version o (versions_in record_version path (records (pairs_in p.after)))
-versions_left path bs p e o held =
-    ap (λ qs. versions_in record_version path (records qs)) (pairs_some bs p e) ∙ one_version path p.pair (pairs_in p.after)
-    ∙ ap (λ h. with_version h (versions_in record_version path (records (pairs_in p.after)))) (sym held)
 
 -- ---- the answer
 

@@ -1,7 +1,8 @@
 // Opening a shelf.
-ghost use Rattle.std.specs.Prelude.{◌≡◌, [], if◌then◌else◌};
+ghost use Rattle.std.specs.Prelude.{◌≡◌, []};
+ghost use Rattle.std.specs.Result.{IfOk};
 ghost use Rattle.fields.specs.Views.{opening_of};
-ghost use Rattle.shelf.specs.Grammar.{opening as opened_as, is_shelf};
+ghost use Rattle.shelf.specs.Grammar.{opening as opened_as};
 
 use crate::order::Expected;
 use crate::shelf::Shelf;
@@ -16,17 +17,12 @@ impl<'a> Shelf<'a> {
         Shelf { bytes: b"" }
     }
 
-    // Takes a buffer in the place of the one before, or says what is wrong first and stays as it was.
-    pub fn open(&mut self, bytes: &'a [u8]) -> Result<(), Refusal>
+    // The shelf of a buffer, or what is wrong with it first.
+    pub fn open(bytes: &'a [u8]) -> Result<Shelf<'a>, Refusal>
         ensures value { opening_of result ≡ opened_as bytes.now }
-        ensures after { self.new.bytes.now ≡ (if is_shelf bytes.now then bytes.now else self.old.bytes.now) }
+        ensures bytes { IfOk result (λ s. s.bytes.now ≡ bytes.now) }
     {
-        match open_buffer(Expected::Module, bytes) {
-            Ok(()) => {
-                self.bytes = bytes;
-                Ok(())
-            }
-            Err(refusal) => Err(refusal),
-        }
+        open_buffer(Expected::Module, bytes)?;
+        Ok(Shelf { bytes })
     }
 }

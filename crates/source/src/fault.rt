@@ -23,26 +23,13 @@ pub struct Fault {
 }
 
 impl Fault {
-    // A fault that arises here and names no place.
-    pub fn here(cause: Cause) -> Fault
-        ensures value { fault_of result ≡ record { cause = cause_of cause; place = 0; depth = 0 } }
-    {
-        Fault {
-            cause,
-            place: 0,
-            depth: 0,
-        }
-    }
-
     // The same fault, one layer up.
     pub fn deeper(self) -> Fault
         ensures value { fault_of result ≡ one_deeper (fault_of self) }
     {
-        let depth = self.depth.saturating_add(1);
         Fault {
-            cause: self.cause,
-            place: self.place,
-            depth,
+            depth: self.depth.saturating_add(1),
+            ..self
         }
     }
 
@@ -50,9 +37,19 @@ impl Fault {
     pub fn is_missing(self) -> bool
         ensures value { result ≡ tells_missing (cause_of self.cause) }
     {
-        match self.cause {
-            Cause::Missing => true,
-            _ => false,
+        matches!(self.cause, Cause::Missing)
+    }
+}
+
+// A fault that arises here and names no place.
+impl From<Cause> for Fault {
+    ghost from_gives = { λ c f. fault_of f ≡ record { cause = cause_of c; place = 0; depth = 0 } };
+
+    fn from(cause: Cause) -> Fault {
+        Fault {
+            cause,
+            place: 0,
+            depth: 0,
         }
     }
 }

@@ -1,16 +1,16 @@
 -- Texts as they are written in file names, read from the front. Assumes nothing.
-use Rattle.std.proofs.Common.{◌≡◌, ℕ, suc, ◌+◌, ◌-◌, ◌<◌, ◌≤◌, Bool, true, false, cond, ◌&&◌, eqb, leb, List, [], ◌∷◌, ◌++◌, length, get_or, take, drop, set, Some, None, Option, sym, refl, ap, ◌∙◌, arith, Bor, MatchOption}
+use Rattle.std.proofs.Common.{◌≡◌, ℕ, suc, ◌+◌, ◌-◌, ◌<◌, ◌≤◌, Bool, true, false, cond, ◌&&◌, eqb, leb, List, [], ◌∷◌, ◌++◌, length, get_or, take, drop, Some, None, Option, sym, refl, ap, ◌∙◌, arith, Bor, MatchOption}
 use Rattle.std.specs.Option.{option_map}
 use Rattle.std.specs.Bool.{then_some}
 use Rattle.std.specs.Str.{bytes_eq}
 use Rattle.std.proofs.lemmas.Slice.Eq.{bytes_eq-Decides}
-use Rattle.std.proofs.lemmas.List.{append_assoc, append-nil, length-append, take_rest, take_more_set}
+use Rattle.std.proofs.lemmas.List.{append_assoc, append-nil, length-append, take_rest}
 use Rattle.std.proofs.lemmas.Bool.{eqb-true, eq-eqb, leb-true, le-leb, and_parts, and_from, true≢false}
 use Rattle.rules.specs.Orders.{Bytes}
 use Rattle.rules.specs.Versions.{is_release, is_version}
 use Rattle.rules.specs.Names.{ModuleVersion, at}
 use Rattle.tree.specs.Escapes.{mark, is_upper, is_lower, written, escaped, LetterCut, behind_mark, letter_of, unescaped}
-use Rattle.tree.specs.Filenames.{between, file_name, behind, before, bound, formed_version, version_written, version_held}
+use Rattle.tree.specs.Filenames.{between, file_name, behind, before, bound, version_behind, formed_version, version_written, version_held}
 use Rattle.tree.specs.Layouts.{held, text_written}
 use Rattle.tree.specs.Examples.{NamesRight}
 use Rattle.tree.specs.Laws.{behind_text, before_text, name_holds, held_formed}
@@ -127,6 +127,20 @@ module _ (ending name : Bytes) (x : ModuleVersion) where
   pub version_other : (rest : Bytes) → Some rest ≡ path_behind → None ≡ behind (escaped x.version) rest → named ≡ false
   version_other rest e f = behind_path_same rest e ∙ part_other (escaped x.version) rest ending (sym f)
 
+  -- what stands behind both is the ending, or something else
+  pub named_by : (r : Bool) (P : Bor (List ℕ) → Type 0) → ((s : Bor (List ℕ)) → P s → r ≡ bytes_eq s.now ending)
+      → (o : Option (Bor (List ℕ))) → option_map (λ s. s.now) o ≡ version_behind name x → MatchOption o (r ≡ false) P → r ≡ named
+  named_by r P tells None e h = h ∙ sym (go path_behind refl e)
+    where
+      go : (q : Option Bytes) → path_behind ≡ q → None ≡ bound (behind (escaped x.version)) q → named ≡ false
+      go None p f = behind_path_other (sym p)
+      go (Some rest) p f = version_other rest (sym p) f
+  named_by r P tells (Some s) e h = tells s h ∙ sym (go path_behind refl e)
+    where
+      go : (q : Option Bytes) → path_behind ≡ q → Some s.now ≡ bound (behind (escaped x.version)) q → named ≡ bytes_eq s.now ending
+      go None p f = let z : ◌≡◌ {A = ℕ} 0 1 = cc in absurd (omega arith)
+      go (Some rest) p f = version_same rest s.now (sym p) f
+
 -- ---- letters
 
 abbrev letter : ℕ → Bytes → LetterCut
@@ -183,32 +197,32 @@ mapped_id : (o : Option Bytes) → o ≡ option_map (λ t. t) o
 mapped_id None = refl
 mapped_id (Some t) = refl
 
-pub nothing_read : (bs out : Bytes) → unescaped bs ≡ option_map (λ t. take 0 out ++ t) (unescaped bs)
-nothing_read bs out = mapped_id (unescaped bs)
+pub nothing_read : (bs out : Bytes) → out ≡ [] → unescaped bs ≡ option_map (λ t. out ++ t) (unescaped bs)
+nothing_read bs out e = mapped_id (unescaped bs) ∙ ap (λ (xs : Bytes). option_map (λ t. xs ++ t) (unescaped bs)) (sym e)
 
-module _ (bs out rest : Bytes) (n : ℕ) (so_far : unescaped bs ≡ option_map (λ t. take n out ++ t) (unescaped rest)) where
+module _ (bs out rest : Bytes) (so_far : unescaped bs ≡ option_map (λ t. out ++ t) (unescaped rest)) where
   module _ (l : LetterCut) (e : Some l ≡ letter_of rest) where
-    pub one_read : n < length out → unescaped bs ≡ option_map (λ t. take (n + 1) (set out n l.byte) ++ t) (unescaped l.after)
-    one_read h = so_far ∙ ap (option_map (λ t. take n out ++ t)) (letter_first rest l e) ∙ go (unescaped l.after)
+    pub one_read : (more : Bytes) → more ≡ out ++ l.byte ∷ [] → unescaped bs ≡ option_map (λ t. more ++ t) (unescaped l.after)
+    one_read more is = so_far ∙ ap (option_map (λ t. out ++ t)) (letter_first rest l e) ∙ go (unescaped l.after)
       where
-        go : (o : Option Bytes) → option_map (λ t. take n out ++ t) (option_map (λ t. l.byte ∷ t) o) ≡ option_map (λ t. take (n + 1) (set out n l.byte) ++ t) o
+        go : (o : Option Bytes) → option_map (λ t. out ++ t) (option_map (λ t. l.byte ∷ t) o) ≡ option_map (λ t. more ++ t) o
         go None = refl
-        go (Some t) = ap Some (sym (ap (λ x. x ++ t) (take_more_set out n l.byte h) ∙ append_assoc (take n out) (l.byte ∷ []) t))
+        go (Some t) = ap Some (sym (ap (λ x. x ++ t) is ∙ append_assoc out (l.byte ∷ []) t))
 
     -- more than 48 bytes are not held
-    pub too_long_read : length (take n out) ≡ 48 → None ≡ text_written bs
-    too_long_read h = sym (ap (bound held) (so_far ∙ ap (option_map (λ t. take n out ++ t)) (letter_first rest l e)) ∙ go (unescaped l.after))
+    pub too_long_read : length out ≡ 48 → None ≡ text_written bs
+    too_long_read h = sym (ap (bound held) (so_far ∙ ap (option_map (λ t. out ++ t)) (letter_first rest l e)) ∙ go (unescaped l.after))
       where
         long : (v : Bytes) → 48 < length v → (b : Bool) → leb (length v) 48 ≡ b → then_some b v ≡ None
         long v k false s = refl
         long v k true s = absurd (omega (arith, leb-true (length v) 48 s))
 
-        go : (o : Option Bytes) → bound held (option_map (λ t. take n out ++ t) (option_map (λ t. l.byte ∷ t) o)) ≡ None
+        go : (o : Option Bytes) → bound held (option_map (λ t. out ++ t) (option_map (λ t. l.byte ∷ t) o)) ≡ None
         go None = refl
-        go (Some t) = long (take n out ++ (l.byte ∷ t)) (omega (arith, length-append (take n out) (l.byte ∷ t), h)) (leb (length (take n out ++ (l.byte ∷ t))) 48) refl
+        go (Some t) = long (out ++ (l.byte ∷ t)) (omega (arith, length-append out (l.byte ∷ t), h)) (leb (length (out ++ (l.byte ∷ t))) 48) refl
 
-  pub all_read : rest ≡ [] → text_written bs ≡ held (take n out)
-  all_read e = ap (bound held) (so_far ∙ ap (λ t. option_map (λ t. take n out ++ t) (unescaped t)) e ∙ ap Some (append-nil (take n out)))
+  pub all_read : rest ≡ [] → text_written bs ≡ held out
+  all_read e = ap (bound held) (so_far ∙ ap (λ t. option_map (λ t. out ++ t) (unescaped t)) e ∙ ap Some (append-nil out))
 
 -- a version can be held
 pub version_short : (t : Bytes) → is_version t ≡ true → length t ≤ 48

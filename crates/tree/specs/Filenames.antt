@@ -46,3 +46,9 @@ version_written bs = bound formed_version (unescaped bs)
 -- the version that a name holds for a path
 abbrev pub version_held : Bytes → Bytes → Bytes → Option Bytes
 version_held ending p name = bound version_written (bound (before ending) (bound (behind between) (behind (escaped p) name)))
+
+-- ---- on the way
+
+-- what stands behind the path and the version of a name
+abbrev pub version_behind : Bytes → ModuleVersion → Option Bytes
+version_behind name x = bound (behind (escaped x.version)) (bound (behind between) (behind (escaped x.path) name))

@@ -3,11 +3,12 @@ ghost use Rattle.std.specs.Prelude.{◌≡◌};
 ghost use Rattle.std.specs.Option.{option_map};
 ghost use Rattle.names.specs.Texts.{text_bytes};
 ghost use Rattle.versions.specs.Values.{plain_version_bytes};
-ghost use Rattle.tree.specs.Escapes.{is_upper, is_lower, written, escaped, behind_mark, letter_of};
+ghost use Rattle.tree.specs.Escapes.{written, escaped, behind_mark, letter_of};
 ghost use Rattle.tree.specs.Filenames.{behind, version_written};
 ghost use Rattle.tree.specs.Layouts.{text_written};
 ghost use Rattle.tree.specs.Views.{letter_cut_of};
 
+use arrayvec::ArrayVec;
 use names::text::Text;
 use versions::version::{PlainVersion, Version};
 
@@ -21,24 +22,6 @@ pub(crate) struct Letter<'a> {
     pub(crate) after: &'a [u8],
 }
 
-fn is_upper(c: char) -> bool
-    ensures value { result ≡ is_upper c }
-{
-    match c {
-        'A'..='Z' => true,
-        _ => false,
-    }
-}
-
-fn is_lower(c: char) -> bool
-    ensures value { result ≡ is_lower c }
-{
-    match c {
-        'a'..='z' => true,
-        _ => false,
-    }
-}
-
 // What stands behind a text that bytes begin with.
 pub(crate) fn strip<'a>(bytes: &'a [u8], text: &[u8]) -> Option<&'a [u8]>
     ensures value { option_map (λ s. s.now) result ≡ behind text.now bytes.now }
@@ -50,7 +33,7 @@ pub(crate) fn strip<'a>(bytes: &'a [u8], text: &[u8]) -> Option<&'a [u8]>
 fn strip_byte<'a>(bytes: &'a [u8], byte: u8) -> Option<&'a [u8]>
     ensures value { option_map (λ s. s.now) result ≡ behind (written byte) bytes.now }
 {
-    if is_upper(byte as char) {
+    if byte.is_ascii_uppercase() {
         strip(bytes, &[b'!', byte + 32])
     } else {
         strip(bytes, &[byte])
@@ -63,10 +46,7 @@ pub(crate) fn strip_escaped<'a>(bytes: &'a [u8], text: &[u8]) -> Option<&'a [u8]
 {
     let mut rest = bytes;
     for byte in text {
-        match strip_byte(rest, *byte) {
-            Some(after) => rest = after,
-            None => return None,
-        }
+        rest = strip_byte(rest, *byte)?;
     }
     Some(rest)
 }
@@ -75,16 +55,12 @@ pub(crate) fn strip_escaped<'a>(bytes: &'a [u8], text: &[u8]) -> Option<&'a [u8]
 fn behind_mark<'a>(bytes: &'a [u8]) -> Option<Letter<'a>>
     ensures value { option_map letter_cut_of result ≡ behind_mark bytes.now }
 {
-    let [low, after @ ..] = bytes else {
-        return None;
-    };
-    if is_lower(*low as char) {
-        Some(Letter {
+    match bytes {
+        [low @ b'a'..=b'z', after @ ..] => Some(Letter {
             byte: *low - 32,
             after,
-        })
-    } else {
-        None
+        }),
+        _ => None,
     }
 }
 
@@ -92,16 +68,10 @@ fn behind_mark<'a>(bytes: &'a [u8]) -> Option<Letter<'a>>
 fn first_letter<'a>(bytes: &'a [u8]) -> Option<Letter<'a>>
     ensures value { option_map letter_cut_of result ≡ letter_of bytes.now }
 {
-    let [byte, after @ ..] = bytes else {
-        return None;
-    };
-    if *byte == b'!' {
-        return behind_mark(after);
-    }
-    if is_upper(*byte as char) {
-        None
-    } else {
-        Some(Letter { byte: *byte, after })
+    match bytes {
+        [] | [b'A'..=b'Z', ..] => None,
+        [b'!', after @ ..] => behind_mark(after),
+        [byte, after @ ..] => Some(Letter { byte: *byte, after }),
     }
 }
 
@@ -109,32 +79,26 @@ fn first_letter<'a>(bytes: &'a [u8]) -> Option<Letter<'a>>
 pub(crate) fn read_text(bytes: &[u8]) -> Option<Text>
     ensures value { option_map text_bytes result ≡ text_written bytes.now }
 {
-    let mut text = [0u8; 48];
-    let mut len = 0;
+    let mut text: ArrayVec<u8, LONGEST> = ArrayVec::new();
     let mut rest = bytes;
     while let Some(letter) = first_letter(rest) {
-        if len == LONGEST {
+        if text.is_full() {
             return None;
         }
-        text[len] = letter.byte;
-        len += 1;
+        text.push(letter.byte);
         rest = letter.after;
     }
     if !rest.is_empty() {
         return None;
     }
-    Text::of(&text[0..len])
+    Text::of(text.as_slice())
 }
 
 // The version that is written.
 pub(crate) fn read_version(bytes: &[u8]) -> Option<PlainVersion>
     ensures value { option_map plain_version_bytes result ≡ version_written bytes.now }
 {
-    let Some(text) = read_text(bytes) else {
-        return None;
-    };
-    match Version::check(text.as_bytes()) {
-        Some(version) => Some(version.plain()),
-        None => None,
-    }
+    let text = read_text(bytes)?;
+    let version = Version::check(text.as_bytes())?;
+    Some(version.plain())
 }

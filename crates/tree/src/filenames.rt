@@ -5,10 +5,9 @@ ghost use Rattle.std.specs.Str.{bytes_eq};
 ghost use Rattle.versions.specs.Values.{plain_version_bytes};
 ghost use Rattle.modules.specs.Rows.{names_of};
 ghost use Rattle.tree.specs.Escapes.{escaped};
-ghost use Rattle.tree.specs.Filenames.{between, file_name, behind, before, bound, version_held};
+ghost use Rattle.tree.specs.Filenames.{between, file_name, behind, before, bound, version_behind, version_held};
 
 use crate::escapes::{read_version, strip, strip_escaped};
-use fields::bytes::same_bytes;
 use modules::rows::ModuleVersion;
 use versions::version::PlainVersion;
 
@@ -23,34 +22,30 @@ pub(crate) fn strip_ending<'a>(bytes: &'a [u8], ending: &[u8]) -> Option<&'a [u8
 fn behind_path<'a>(name: &'a [u8], path: &[u8]) -> Option<&'a [u8]>
     ensures value { option_map (λ s. s.now) result ≡ bound (behind between) (behind (escaped path.now) name.now) }
 {
-    match strip_escaped(name, path) {
-        Some(rest) => strip(rest, b"/@v/"),
-        None => None,
-    }
+    strip(strip_escaped(name, path)?, b"/@v/")
+}
+
+// What stands behind the path and the version in a name.
+fn behind_version<'a>(name: &'a [u8], of: &ModuleVersion) -> Option<&'a [u8]>
+    ensures value { option_map (λ s. s.now) result ≡ version_behind name.now (names_of of.now) }
+{
+    strip_escaped(
+        behind_path(name, of.path.as_bytes())?,
+        of.version.as_bytes(),
+    )
 }
 
 // Whether a name is that of the module version with an ending.
 pub(crate) fn is_named(name: &[u8], of: &ModuleVersion, ending: &[u8]) -> bool
     ensures value { result ≡ bytes_eq name.now (file_name ending.now (names_of of.now)) }
 {
-    let Some(version) = behind_path(name, of.path.as_bytes()) else {
-        return false;
-    };
-    match strip_escaped(version, of.version.as_bytes()) {
-        Some(rest) => same_bytes(rest, ending),
-        None => false,
-    }
+    behind_version(name, of).is_some_and(|rest| rest == ending)
 }
 
 // The version that a name with an ending holds for a path.
 pub(crate) fn version_in(name: &[u8], path: &[u8], ending: &[u8]) -> Option<PlainVersion>
     ensures value { option_map plain_version_bytes result ≡ version_held ending.now path.now name.now }
 {
-    let Some(rest) = behind_path(name, path) else {
-        return None;
-    };
-    match strip_ending(rest, ending) {
-        Some(version) => read_version(version),
-        None => None,
-    }
+    let rest = behind_path(name, path)?;
+    read_version(strip_ending(rest, ending)?)
 }

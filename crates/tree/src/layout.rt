@@ -16,10 +16,7 @@ use names::text::Text;
 fn text_before(name: &[u8], ending: &[u8]) -> Option<Text>
     ensures value { option_map text_bytes result ≡ bound text_written (before ending.now name.now) }
 {
-    match strip_ending(name, ending) {
-        Some(front) => read_text(front),
-        None => None,
-    }
+    read_text(strip_ending(name, ending)?)
 }
 
 // The module version whose manifest is the file of the folder, if it is any. The folder is named from where the paths begin.
@@ -27,11 +24,7 @@ pub fn manifest_of(folder: &[u8], file: &[u8]) -> Option<ModuleVersion>
     ensures value { option_map names_of result ≡ laid_out folder.now file.now }
     ensures names { LayoutRight }
 {
-    let Some(path) = text_before(folder, b"/@v") else {
-        return None;
-    };
-    let Some(version) = text_before(file, b".mod") else {
-        return None;
-    };
+    let path = text_before(folder, b"/@v")?;
+    let version = text_before(file, b".mod")?;
     ModuleVersion::check(path.as_bytes(), version.as_bytes())
 }

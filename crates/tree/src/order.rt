@@ -4,6 +4,7 @@ ghost use Rattle.tree.specs.Grammar.{follow as following, may_end};
 use causes::cause::Cause;
 use fields::opening::Next;
 
+// Kept: an enum of its own beside that of shelves, since the cases are others; what opening does with them is one function over `Next`.
 #[derive(Clone, Copy)]
 pub enum Expected {
     // the name of a file, or the end
@@ -26,9 +27,6 @@ impl Next for Expected {
     }
 
     fn may_end(self) -> bool {
-        match self {
-            Expected::Name => true,
-            Expected::Body => false,
-        }
+        matches!(self, Expected::Name)
     }
 }

@@ -2,15 +2,16 @@
 ghost use Rattle.tree.specs.Files.{tree_meaning};
 ghost use Rattle.tree.specs.Laws.{tree_lawful};
 
-use crate::reading::{find_file, list_versions, read_manifest};
+use crate::reading::read_manifest;
 use crate::tree::Tree;
 use bottoms::listed::answer_listing;
+use bottoms::pairs::{find_pair, list_versions};
 use causes::cause::Cause;
 use modules::rows::{ModuleVersion, Row};
 use names::path::Path;
 use source::fault::{Fault, Found};
 use source::questions::{ListingSource, Source};
-use source::slices::refuse;
+use source::slices::{check_room, refuse};
 use versions::version::PlainVersion;
 
 impl<'a> Source for Tree<'a> {
@@ -19,11 +20,9 @@ impl<'a> Source for Tree<'a> {
     ghost lawful = { λ s. tree_lawful s.bytes.now };
 
     fn requirements(&mut self, of: &ModuleVersion, rows: &mut [Row]) -> Result<Found, Fault> {
-        if rows.len() < 64 {
-            return refuse(rows, Row::blank(), Cause::SliceTooShort);
-        }
-        match find_file(self.bytes, of) {
-            Some(body) => read_manifest(body, rows),
+        check_room(rows, Row::blank())?;
+        match find_pair::<Self>(self.bytes, of) {
+            Some(file) => read_manifest(file.second, rows),
             None => refuse(rows, Row::blank(), Cause::Missing),
         }
     }
@@ -31,6 +30,6 @@ impl<'a> Source for Tree<'a> {
 
 impl<'a> ListingSource for Tree<'a> {
     fn versions(&mut self, of: &Path, versions: &mut [PlainVersion]) -> Result<Found, Fault> {
-        answer_listing(list_versions(self.bytes, of.as_bytes()), versions)
+        answer_listing(list_versions::<Self>(self.bytes, of.as_bytes()), versions)
     }
 }

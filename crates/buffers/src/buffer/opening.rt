@@ -1,5 +1,6 @@
 // Opening a buffer as a kind.
-ghost use Rattle.std.specs.Prelude.{◌≡◌, true, false, [], is_ok};
+ghost use Rattle.std.specs.Prelude.{◌≡◌, []};
+ghost use Rattle.std.specs.Result.{IfOk};
 ghost use Rattle.fields.specs.Views.{opening_of};
 ghost use Rattle.buffers.specs.Kinds.{meaning_as, opening_as, buffer_meaning};
 
@@ -13,26 +14,17 @@ impl<'a> Buffer<'a> {
     pub fn empty() -> Buffer<'a>
         ensures value { buffer_meaning result ≡ meaning_as Kind.Tree [] }
     {
-        Buffer {
-            kind: Kind::Tree,
-            shelf: Shelf::empty(),
-            tree: Tree::empty(),
-        }
+        Buffer::Tree(Tree::empty())
     }
 
-    // Takes bytes as a kind of buffer in the place of those before, or says what is wrong first and means what it meant.
-    pub fn open(&mut self, kind: Kind, bytes: &'a [u8]) -> Result<(), Refusal>
+    // The bytes as a kind of buffer, or what is wrong with them first.
+    pub fn open(kind: Kind, bytes: &'a [u8]) -> Result<Buffer<'a>, Refusal>
         ensures value { opening_of result ≡ opening_as kind bytes.now }
-        ensures after { is_ok result ≡ true → buffer_meaning self.new ≡ meaning_as kind bytes.now }
-        ensures refused { is_ok result ≡ false → buffer_meaning self.new ≡ buffer_meaning self.old }
+        ensures meaning { IfOk result (λ b. buffer_meaning b ≡ meaning_as kind bytes.now) }
     {
-        let opened = match kind {
-            Kind::Shelf => self.shelf.open(bytes),
-            Kind::Tree => self.tree.open(bytes),
-        };
-        if opened.is_ok() {
-            self.kind = kind;
+        match kind {
+            Kind::Shelf => Ok(Buffer::Shelf(Shelf::open(bytes)?)),
+            Kind::Tree => Ok(Buffer::Tree(Tree::open(bytes)?)),
         }
-        opened
     }
 }

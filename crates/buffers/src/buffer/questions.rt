@@ -1,7 +1,7 @@
 // A buffer is a source, and can list.
 ghost use Rattle.buffers.specs.Kinds.{buffer_meaning, buffer_lawful};
 
-use super::{Buffer, Kind};
+use super::Buffer;
 use modules::rows::{ModuleVersion, Row};
 use names::path::Path;
 use source::fault::{Fault, Found};
@@ -14,18 +14,18 @@ impl<'a> Source for Buffer<'a> {
     ghost lawful = { buffer_lawful };
 
     fn requirements(&mut self, of: &ModuleVersion, rows: &mut [Row]) -> Result<Found, Fault> {
-        match self.kind {
-            Kind::Shelf => self.shelf.requirements(of, rows),
-            Kind::Tree => self.tree.requirements(of, rows),
+        match self {
+            Buffer::Shelf(shelf) => shelf.requirements(of, rows),
+            Buffer::Tree(tree) => tree.requirements(of, rows),
         }
     }
 }
 
 impl<'a> ListingSource for Buffer<'a> {
     fn versions(&mut self, of: &Path, versions: &mut [PlainVersion]) -> Result<Found, Fault> {
-        match self.kind {
-            Kind::Shelf => self.shelf.versions(of, versions),
-            Kind::Tree => self.tree.versions(of, versions),
+        match self {
+            Buffer::Shelf(shelf) => shelf.versions(of, versions),
+            Buffer::Tree(tree) => tree.versions(of, versions),
         }
     }
 }

@@ -1,10 +1,7 @@
-use Rattle.std.proofs.Common.{arith}
-use Rattle.source.proofs.Blanks.{blanks_more, blanks_all}
+-- What is called in each place gives the blank. Assumes nothing.
+use Rattle.std.proofs.Common.{of_calls}
+use Rattle.source.proofs.Blanks.{blanked}
 use Rattle.source.proofs.slices.blank_from.Goals as goal
 
-pub loop-i-preserved : goal.loop-i-preserved
-loop-i-preserved g c =
-    (blanks_more c.args.blank _ c.loop-i.items c.args.start c.loop-i.i c.loop-i.auto.i (omega arith) c.loop-i.invariant.0, omega arith)
-
 pub returns : goal.returns
-returns g c = record { items = blanks_all c.args.blank _ c.loop-i.items c.args.start c.loop-i.i _ c.loop-i.auto.items c.loop-i-test.false c.loop-i.invariant.1 c.loop-i.invariant.0 }
+returns g c = record { items = blanked c.args.blank _ _ c.args.items.now c.fill_with.new.self c.args.start c.min-start.result c.min-start.ensures c.fill_with.ensures.len (λ x q r. search of_calls) _ c.fill_with.ensures.ran.1 }

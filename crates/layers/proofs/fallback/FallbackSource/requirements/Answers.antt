@@ -1,10 +1,13 @@
-use Rattle.std.proofs.Common.{length, refl}
+-- A short slice; the rest is found without an answer. Assumes nothing.
+use Rattle.std.proofs.Common.{length, sym, refl, leb-false}
+use Rattle.rules.specs.Sources.{fault}
+use Rattle.rules.specs.Questions.{too_short}
 use Rattle.rules.specs.Slices.{blank}
 use Rattle.modules.specs.Rows.{row_names}
 use Rattle.source.proofs.Telling.{tells_short}
 use Rattle.layers.proofs.fallback.FallbackSource.requirements.Goals as goal
 
-pub returns-then-rows-lt64 : goal.returns-then-rows-lt64
-returns-then-rows-lt64 g c =
-    let (value, items) = tells_short row_names blank (length c.args.rows.now) _ c.blank.result _ c.refuse.new.items c.if-rows-lt64.true c.blank.ensures c.refuse.ensures.value c.refuse.ensures.items in
-    record { same = refl; inside = refl; value = value; items = items; first = refl; second = refl }
+pub returns-in_err-check_room-clause-items : goal.returns-in_err-check_room-clause-items
+returns-in_err-check_room-clause-items g c =
+    let n = length c.args.rows.now in
+    (tells_short row_names blank n _ c.blank.result (fault too_short) _ (leb-false 64 n (sym c.in_err-check_room.ensures.long)) c.blank.ensures refl c.in_err-check_room.ensures.items).1

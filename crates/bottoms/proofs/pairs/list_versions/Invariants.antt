@@ -7,15 +7,13 @@ use Rattle.rules.specs.Versions.{version_order}
 use Rattle.modules.specs.Tables.{listing_bytes}
 use Rattle.fields.specs.Pairs.{pairs_in}
 use Rattle.bottoms.specs.Items.{versions_in, version_table}
-use Rattle.shelf.specs.Laws.{is_formed}
-use Rattle.shelf.specs.Records.{records, record_version}
-use Rattle.shelf.proofs.reading.list_versions.Given as goal
+use Rattle.bottoms.proofs.pairs.list_versions.Given as goal
 
 abbrev pub invariant-loop-pair : goal.invariant-loop-pair
-invariant-loop-pair l =
-    (version_table (versions_in record_version l.path (records (pairs_in l.bytes)))
-    ≡ entered_all own version_order keep (listing_bytes l.listing) (versions_in record_version l.path (records (pairs_in l.rest))))
-    × AllByRecursion (λ q. is_formed q ≡ true) (pairs_in l.rest)
+invariant-loop-pair g l =
+    (version_table (versions_in g.P.Pairs.held l.path (pairs_in l.bytes))
+    ≡ entered_all own version_order keep (listing_bytes l.listing) (versions_in g.P.Pairs.held l.path (pairs_in l.rest)))
+    × AllByRecursion (λ q. g.P.Pairs.formed q ≡ true) (pairs_in l.rest)
 
 abbrev pub decreases-loop-pair : goal.decreases-loop-pair
-decreases-loop-pair l = length l.rest
+decreases-loop-pair g l = length l.rest
