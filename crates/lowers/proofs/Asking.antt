@@ -1,24 +1,21 @@
 -- What lower's walk is answered at a place, as the code asks. Assumes nothing.
-use Rattle.std.proofs.Common.{◌≡◌, ℕ, ◌+◌, ◌<◌, ◌≤◌, Bool, true, false, cond, List, [], map, length, get_or, take, IfOk, Some, Ok, Err, Result, sym, refl, ap, ◌∙◌, subst, arith}
+use Rattle.std.proofs.Common.{◌≡◌, ℕ, ◌+◌, ◌<◌, ◌≤◌, Bool, true, false, cond, List, [], length, IfOk, Some, Ok, Err, Result, refl, ap, ◌∙◌, subst, arith}
 use Rattle.std.specs.List.{slice_get, AllByRecursion}
 use Rattle.std.proofs.lemmas.Bool.{or_left, or_right}
 use Rattle.rules.specs.Names.{ModuleVersion, is_module_version}
 use Rattle.rules.specs.Causes.{Fault, is_missing}
 use Rattle.rules.specs.Sources.{Answer, found, fault, Lawful, narrowed}
-use Rattle.rules.specs.Slices.{blank_place}
 use Rattle.rules.specs.Projects.{View, off_main, remaining}
 use Rattle.rules.specs.Walks as R
 use Rattle.rules.specs.Walks.{module_versions, written, Walked, ended, done, stopped, if_room, answered, questioned}
 use Rattle.rules.specs.Lowers.{is_above, excused, is_missing_answer, lower_ask, is_bad}
-use Rattle.walks.specs.declared.place.Place.{Place}
-use Rattle.walks.specs.declared.stop.Stop.{Stop}
-use Rattle.walks.specs.Places.{place_of}
-use Rattle.walks.specs.Stops.{Tells}
+use Rattle.causes.specs.declared.refusal.Refusal.{Refusal}
+use Rattle.walks.specs.Sheets.{EndsAs}
 use Rattle.walks.proofs.Telling.{with_room}
-use Rattle.walks.proofs.Walking.{AsksFormed, asked, reads, required_formed}
+use Rattle.walks.proofs.Walking.{AsksFormed, asked_of, required_formed}
 use Rattle.lowers.specs.declared.learned.Learned.{Learned}
 use Rattle.lowers.specs.Learned.{edges_in, Edged, Knows}
-use Rattle.lowers.proofs.Edging.{place_row, told_extends, knows_list}
+use Rattle.lowers.proofs.Edging.{told_extends, knows_list}
 
 module _ (w : View) (cs : List ModuleVersion) where
   -- by the ceiling, and by what the source answers
@@ -61,15 +58,12 @@ module _ (w : View) (cs : List ModuleVersion) where
       by_test false q = answer (remaining w x) refl q
 
   -- the place i of a sheet, and the row x that stands there
-  module _ (i : ℕ) (s : List R.Place) (in_sheet : i < length s) (x : ModuleVersion) (is : x ≡ (get_or s i blank_place).row) where
+  module _ (i : ℕ) (s : List R.Place) (x : ModuleVersion) (there : slice_get (module_versions s) i ≡ Some x) where
     abbrev pub asked_here : Walked
     asked_here = questioned (lower_ask w cs) (ended done) i s (slice_get s i)
 
-    pub row_here : slice_get (module_versions s) i ≡ Some x
-    row_here = place_row s i (get_or s i blank_place) (reads (lower_ask w cs) i s in_sheet) ∙ ap Some (sym is)
-
     here : (a : Answer (List ModuleVersion)) → lower_ask w cs x ≡ a → asked_here ≡ answered (ended done) i s a
-    here a e = asked (lower_ask w cs) i s in_sheet ∙ ap (λ y. answered (ended done) i s (lower_ask w cs y)) (sym is) ∙ ap (answered (ended done) i s) e
+    here a e = asked_of (lower_ask w cs) (ended done) i s x there ∙ ap (answered (ended done) i s) e
 
     pub here_above : length s ≤ 256 → is_above cs x ≡ true → asked_here ≡ ended done s
     here_above short t = here (found []) (ask_above x t) ∙ with_room (ended done) s short
@@ -86,10 +80,8 @@ module _ (w : View) (cs : List ModuleVersion) where
 
       -- what is learned of a place that has a list
       pub learned_list : (l k : Learned) → Knows w cs s l i → i < length (module_versions s) → (ys : List ModuleVersion) → w.layer.requirements x ≡ found ys → length (off_main w.main ys) ≤ 64
-          → k.marked ≡ l.marked → (r : Result ℕ Stop) (after : List Place) → Tells (if_room (ended done) (written i (off_main w.main ys) s)) r after
-          → IfOk r (λ n. Edged i (edges_in l) (off_main w.main ys) (module_versions (map place_of (take n after))) (edges_in k))
-          → IfOk r (λ n. Knows w cs (map place_of (take n after)) k (i + 1))
-      learned_list l k knows in_rows ys e short marks (Ok n) after t edged =
-          knows_list w cs s (map place_of (take n after)) l k i x (off_main w.main ys) knows row_here in_rows under (ap (narrowed (off_main w.main)) e) short
-          (told_extends i (off_main w.main ys) s n after t) edged marks
-      learned_list l k knows in_rows ys e short marks (Err stop) after t edged = tt
+          → k.marked ≡ l.marked → (r : Result (Unit {0}) Refusal) (left : List R.Place) → EndsAs {A = Unit {0}} (if_room (ended done) (written i (off_main w.main ys) s)) r left
+          → IfOk r (λ _. Edged i (edges_in l) (off_main w.main ys) (module_versions left) (edges_in k)) → IfOk r (λ _. Knows w cs left k (i + 1))
+      learned_list l k knows in_rows ys e short marks (Ok n) left t edged =
+          knows_list w cs s left l k i x (off_main w.main ys) knows there in_rows under (ap (narrowed (off_main w.main)) e) short (told_extends i (off_main w.main ys) s left t) edged marks
+      learned_list l k knows in_rows ys e short marks (Err refusal) left t edged = tt

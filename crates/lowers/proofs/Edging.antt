@@ -16,10 +16,9 @@ use Rattle.rules.proofs.Members.{member_left, member_right, member_either}
 use Rattle.rules.proofs.Walks.{written_places}
 use Rattle.modules.specs.Rows.{row_names}
 use Rattle.modules.specs.declared.rows.Row.{Row}
-use Rattle.walks.specs.declared.place.Place.{Place}
-use Rattle.walks.specs.Places.{place_of}
-use Rattle.walks.specs.Stops.{Tells}
-use Rattle.walks.proofs.Telling.{ok_told}
+use Rattle.walks.specs.Sheets.{EndsAs}
+use Rattle.walks.proofs.Telling.{ok_ended}
+use Rattle.walks.proofs.Walking.{place_of_row}
 use Rattle.lowers.specs.declared.learned.Edge.{Edge}
 use Rattle.lowers.specs.declared.learned.Learned.{Learned}
 use Rattle.lowers.specs.Learned.{edges_in, is_marked, Edged, Cleared, Knows}
@@ -28,11 +27,6 @@ use Rattle.lowers.specs.Learned.{edges_in, is_marked, Edged, Cleared, Knows}
 abbrev pub Extends : List ModuleVersion → List ModuleVersion → Type 0
 Extends s t = (i : ℕ) (x : ModuleVersion) → slice_get s i ≡ Some x → slice_get t i ≡ Some x
 
-pub row_place : (s : List R.Place) (i : ℕ) (x : ModuleVersion) → slice_get (module_versions s) i ≡ Some x → (r : R.Place) × (slice_get s i ≡ Some r) × (r.row ≡ x)
-row_place [] i x e = let z : ◌≡◌ {A = ℕ} 0 1 = cc in absurd (omega arith)
-row_place (r ∷ rs) zero x e = (r, refl, cc)
-row_place (r ∷ rs) (suc i) x e = row_place rs i x e
-
 pub place_row : (s : List R.Place) (i : ℕ) (r : R.Place) → slice_get s i ≡ Some r → slice_get (module_versions s) i ≡ Some r.row
 place_row [] i r e = let z : ◌≡◌ {A = ℕ} 0 1 = cc in absurd (omega arith)
 place_row (q ∷ qs) zero r e = let same : q ≡ r = cc in ap (λ (p : R.Place). Some p.row) same
@@ -40,12 +34,11 @@ place_row (q ∷ qs) (suc i) r e = place_row qs i r e
 
 pub written_extends : (from : ℕ) (xs : List ModuleVersion) (s : List R.Place) → Extends (module_versions s) (module_versions (written from xs s))
 written_extends from xs s i x e =
-    let (r, n, q) = row_place s i x e in
+    let (r, n, q) = place_of_row s i x e in
     place_row (written from xs s) i r (written_places from xs s i r n) ∙ ap Some q
 
-pub told_extends : (from : ℕ) (xs : List ModuleVersion) (s : List R.Place) (n : ℕ) (after : List Place) → Tells (if_room (ended done) (written from xs s)) (Ok n) after
-    → Extends (module_versions s) (module_versions (map place_of (take n after)))
-told_extends from xs s n after t = let (l, k, e) = ok_told (written from xs s) after n t in subst (λ u. Extends (module_versions s) (module_versions u)) (sym e) (written_extends from xs s)
+pub told_extends : (from : ℕ) (xs : List ModuleVersion) (s left : List R.Place) → EndsAs {A = Unit {0}} (if_room (ended done) (written from xs s)) (Ok tt) left → Extends (module_versions s) (module_versions left)
+told_extends from xs s left t = let (l, e) = ok_ended (written from xs s) left tt t in subst (λ u. Extends (module_versions s) (module_versions u)) (sym e) (written_extends from xs s)
 
 -- what was there stays
 nth_one : (s : List ModuleVersion) (i : ℕ) → i < length s → (x : ModuleVersion) × (slice_get s i ≡ Some x)
@@ -172,9 +165,6 @@ module _ (w : View) (cs : List ModuleVersion) where
 pub off_short : (main : Bytes) (xs : List ModuleVersion) → length (off_main main xs) ≤ length xs
 off_short main xs = omega (arith, length-filter_both (λ y. not (same_path y main)) (λ y. not (not (same_path y main))) (λ y. refl) xs)
 
-pub off_on : (main : Bytes) (x : ModuleVersion) → true ≡ same_path x main → [] ≡ off_main main (x ∷ [])
-off_on main x e = ap (λ b. cond (not b) (x ∷ []) []) e
-
 pub off_off : (main : Bytes) (x : ModuleVersion) → false ≡ same_path x main → x ∷ [] ≡ off_main main (x ∷ [])
 off_off main x e = ap (λ b. cond (not b) (x ∷ []) []) e
 
@@ -191,12 +181,12 @@ module _ (main : Bytes) (at : ℕ) (rows : List Row) where
       ∙ sym (ap (off_main main) (map_more row_names rows i x h) ∙ filter-append (λ y. not (same_path y main)) (map row_names (take i rows)) (row_names (get_or rows i x) ∷ []))
 
   -- one row more
-  pub edges_turn : (i : ℕ) (x : Row) → i < length rows → x ≡ get_or rows i x → (s : List R.Place) (n : ℕ) (after : List Place) → (a b c : List Edge)
-      → Edged at a (off_upto i) (module_versions s) b → Tells (if_room (ended done) (written at (off_main main (row_names x ∷ [])) s)) (Ok n) after
-      → Edged at b (off_main main (row_names x ∷ [])) (module_versions (map place_of (take n after))) c → Edged at a (off_upto (i + 1)) (module_versions (map place_of (take n after))) c
-  edges_turn i x h read s n after a b c p t q =
-      subst (λ ys. Edged at a ys (module_versions (map place_of (take n after))) c) (off_more i x h read)
-      (edged_more at a b c (off_upto i) (off_main main (row_names x ∷ [])) (module_versions s) (module_versions (map place_of (take n after))) p q (told_extends at (off_main main (row_names x ∷ [])) s n after t))
+  pub edges_turn : (i : ℕ) (x : Row) → i < length rows → x ≡ get_or rows i x → (s left : List R.Place) → (a b c : List Edge)
+      → Edged at a (off_upto i) (module_versions s) b → EndsAs {A = Unit {0}} (if_room (ended done) (written at (off_main main (row_names x ∷ [])) s)) (Ok tt) left
+      → Edged at b (off_main main (row_names x ∷ [])) (module_versions left) c → Edged at a (off_upto (i + 1)) (module_versions left) c
+  edges_turn i x h read s left a b c p t q =
+      subst (λ ys. Edged at a ys (module_versions left) c) (off_more i x h read)
+      (edged_more at a b c (off_upto i) (off_main main (row_names x ∷ [])) (module_versions s) (module_versions left) p q (told_extends at (off_main main (row_names x ∷ [])) s left t))
 
   pub edges_all : (i : ℕ) → length rows ≤ i → (s : List ModuleVersion) (a b : List Edge) → Edged at a (off_upto i) s b → Edged at a (off_main main (map row_names rows)) s b
   edges_all i h s a b p = subst (λ (ys : List Row). Edged at a (off_main main (map row_names ys)) s b) (take_all i rows h) p

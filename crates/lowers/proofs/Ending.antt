@@ -1,39 +1,43 @@
 -- What a lower replies and leaves, by how its list and its walk ended; and that it is the lower of the rules. Assumes nothing.
-use Rattle.std.proofs.Common.{◌≡◌, ℕ, suc, ◌+◌, ◌-◌, ◌≤◌, Bool, true, false, cond, not, ◌⊎◌, List, [], ◌∷◌, ◌++◌, map, length, take, drop, replicate, Some, None, Ok, Err, sym, refl, ap, ◌∙◌, subst, inl, inr, ⊎_elim, arith}
+use Rattle.std.proofs.Common.{◌≡◌, ℕ, suc, ◌+◌, ◌-◌, ◌≤◌, Bool, true, false, cond, not, ◌⊎◌, List, [], ◌∷◌, ◌++◌, map, length, take, drop, replicate, IfOk, Some, None, Ok, Err, Result, sym, refl, ap, ◌∙◌, subst, inl, inr, ⊎_elim, arith}
 use Rattle.std.specs.List.{AllByRecursion}
 use Rattle.std.proofs.lemmas.List.{take_all, length-take, take_at, take-map, length-map}
-use Rattle.std.proofs.ByRecursion.{all_kept_by}
+use Rattle.rules.proofs.Each.{each_filtered}
 use Rattle.std.proofs.lemmas.Bool.{and_parts}
 use Rattle.rules.specs.Orders.{Bytes}
 use Rattle.rules.specs.Paths.{is_path}
 use Rattle.rules.specs.Versions.{is_version}
-use Rattle.rules.specs.Names.{ModuleVersion, is_module_version, same_path, at, ◌∈◌}
+use Rattle.rules.specs.Names.{ModuleVersion, is_module_version, same_path, ◌∈◌}
 use Rattle.rules.specs.Causes.{Refusal, slice_too_short, nothing_to_change}
 use Rattle.rules.specs.Sources.{Meaning, Lawful, included}
 use Rattle.rules.specs.Projects.{State, View, view, with_rows, main_row, off_main, remaining}
 use Rattle.rules.specs.Rows.{table, AscendingRows}
 use Rattle.rules.specs.Walks as R
 use Rattle.rules.specs.Walks.{module_versions, End, done, stopped, no_room, Walked, walk, first_sheet, list_walk}
-use Rattle.rules.specs.Lists.{list_of, IsList}
+use Rattle.rules.specs.Lists.{list_of}
 use Rattle.rules.specs.Lowers.{can_lower, ceiling_of, ceilings, lower_ask, lower_walk, kept_rows, old_list, ceilings_at}
 use Rattle.rules.specs.Slices.{Lent, Slices, long_enough, filled, holding, blank, blank_place}
 use Rattle.rules.specs.Calls.{Reply, counted, refused, refusal_for, replied, if_done, Outcome, if_long_enough, lowers}
 use Rattle.rules.proofs.Members.{kept_was, all_member, all_from_members, member_either}
 use Rattle.rules.proofs.Rows.{table_was, table_ascending}
 use Rattle.rules.proofs.Reached.{off_main_apart}
-use Rattle.rules.proofs.Offers.{Offering, unlisted, overfull, all_offered, offering, ceilings_apart, ceilings_ascend}
+use Rattle.rules.proofs.Offers.{Offering, unlisted, overfull, all_offered, offering}
 use Rattle.rules.proofs.Walks.{placed, run_of, run_room, module_versions_pushed, begun_of, begun_keeps}
 use Rattle.causes.specs.Told.{refusal_of}
 use Rattle.modules.specs.Rows.{row_names}
 use Rattle.modules.specs.declared.rows.Row.{Row}
+use Rattle.causes.specs.declared.refusal.Refusal as C
 use Rattle.walks.specs.declared.place.Place.{Place}
-use Rattle.walks.specs.declared.stop.Stop.{Stop}
-use Rattle.walks.specs.Stops.{Tells, refused_by}
+use Rattle.walks.specs.Places.{place_of}
+use Rattle.modules.specs.Tables.{requirement_names}
+use Rattle.walks.specs.Sheets.{EndsAs, refused_by}
+use Rattle.lowers.specs.declared.lowered.Lowered.{Lowered}
 use Rattle.walks.specs.Views.{bare, walk_from}
 use Rattle.walks.specs.Listed.{Listed, listed, lists_from}
+use Rattle.walks.proofs.Telling.{ended_done}
 use Rattle.walks.proofs.Walking.{required_formed}
 use Rattle.walks.proofs.Listing.{walk_right}
-use Rattle.lowers.specs.Lowered.{Lowering, lower_walk_from, old_from, lowers_from, lowers_under, lowers_listed, left_as_listed, lowerable, outcome_of, LowerStands}
+use Rattle.lowers.specs.Lowered.{Lowering, LowerTold, told_of, told_under, told_from, lower_walk_from, old_from, lowers_from, lowers_under, lowers_listed, left_as_listed, lowerable, outcome_of, LowerStands}
 
 -- ---- the lower of a project
 
@@ -100,12 +104,16 @@ module _ (m : Meaning) (s : State) (p v : Bytes) (n : Lent) where
 pub lower_stands : LowerStands
 lower_stands = lower_stands_at
 
--- ---- lower's walk
+-- ---- what is told of a lower
 
-ended_done : (e : End) → None ≡ refused_by e → e ≡ done
-ended_done done q = refl
-ended_done (stopped k f) q = let z : ◌≡◌ {A = ℕ} 0 1 = cc in absurd (omega arith)
-ended_done no_room q = let z : ◌≡◌ {A = ℕ} 0 1 = cc in absurd (omega arith)
+pub same_told : (a b : LowerTold) → a.reply ≡ b.reply → a.kept ≡ b.kept → a.sheet ≡ b.sheet → a ≡ b
+same_told a b r k s i = record { reply = r i; kept = k i; sheet = s i }
+
+-- with what the list slice holds
+abbrev pub beside : List ModuleVersion → LowerTold → Lowering
+beside list t = record { reply = t.reply; kept = t.kept; slices = record { sheet = t.sheet; list = list } }
+
+-- ---- lower's walk
 
 lower_short : (w : View) (cs : List ModuleVersion) → (lower_walk_from w cs).end ≡ done → length (lower_walk_from w cs).sheet ≤ 256
 unfolding lower_walk_from
@@ -118,31 +126,26 @@ lower_short w cs ok = go (lower_walk_from w cs) (offering w.layer (walk (lower_a
         let r = sym (ap (λ (u : Walked). u.end) is) ∙ e in
         subst (λ (u : Walked). length u.sheet ≤ 256) (sym is) (run_room (lower_ask w cs) (run_of (lower_ask w cs) 255 1 _ refl h) h (λ d. let z : ◌≡◌ {A = ℕ} 0 1 = cc in omega arith))
 
-module _ (w : View) (cs : List ModuleVersion) (after : List Place) where
+module _ (w : View) (cs : List ModuleVersion) (left : List R.Place) where
   abbrev whole : Walked
   whole = lower_walk_from w cs
 
-  module _ (n : ℕ) (t : Tells whole (Ok n) after) where
+  module _ (l : Lowered) (t : EndsAs {A = Lowered} whole (Ok l) left) where
     ok : whole.end ≡ done
     ok = ended_done whole.end t.refused
 
-    pub done_within : n ≤ 256
-    done_within = omega (arith, t.places, length-take 256 whole.sheet)
-
-    pub done_reply : (rows : ℕ) → counted n rows ≡ replied whole.end (length whole.sheet) rows
-    done_reply rows = ap (λ (k : ℕ). counted k rows) (t.places ∙ ap length (take_all 256 whole.sheet (lower_short w cs ok))) ∙ ap (λ (e : End). replied e (length whole.sheet) rows) (sym ok)
+    pub done_reply : (n rows : ℕ) → n ≡ length left → counted n rows ≡ replied whole.end (length whole.sheet) rows
+    done_reply n rows e =
+        ap (λ (k : ℕ). counted k rows) (e ∙ ap length (t.items ∙ take_all 256 whole.sheet (lower_short w cs ok))) ∙ ap (λ (e : End). replied e (length whole.sheet) rows) (sym ok)
 
     pub done_kept : (names rows : List ModuleVersion) → names ≡ rows → Some names ≡ if_done whole.end (Some rows) None
     done_kept names rows e = ap Some e ∙ ap (λ (d : End). if_done d (Some rows) None) (sym ok)
 
-  module _ (s : Stop) (t : Tells whole (Err s) after) where
-    pub stopped_within : s.places ≤ 256
-    stopped_within = omega (arith, t.places, length-take 256 whole.sheet)
-
-    pub stopped_reply : (rows : ℕ) → refused (refusal_of s.refusal) ≡ replied whole.end (length whole.sheet) rows
+  module _ (s : C.Refusal) (t : EndsAs {A = Lowered} whole (Err s) left) where
+    pub stopped_reply : (rows : ℕ) → refused (refusal_of s) ≡ replied whole.end (length whole.sheet) rows
     stopped_reply rows = go whole.end t.refused
       where
-        go : (e : End) → Some (refusal_of s.refusal) ≡ refused_by e → refused (refusal_of s.refusal) ≡ replied e (length whole.sheet) rows
+        go : (e : End) → Some (refusal_of s) ≡ refused_by e → refused (refusal_of s) ≡ replied e (length whole.sheet) rows
         go done q = let z : ◌≡◌ {A = ℕ} 0 1 = cc in absurd (omega arith)
         go (stopped k f) q = cc
         go no_room q = cc
@@ -150,36 +153,17 @@ module _ (w : View) (cs : List ModuleVersion) (after : List Place) where
     pub stopped_kept : (rows : List ModuleVersion) → None ≡ if_done whole.end (Some rows) None
     stopped_kept rows = go whole.end t.refused
       where
-        go : (e : End) → Some (refusal_of s.refusal) ≡ refused_by e → None ≡ if_done e (Some rows) None
+        go : (e : End) → Some (refusal_of s) ≡ refused_by e → None ≡ if_done e (Some rows) None
         go done q = let z : ◌≡◌ {A = ℕ} 0 1 = cc in absurd (omega arith)
         go (stopped k f) q = refl
         go no_room q = refl
 
--- ---- the ceilings of rows
-
-module _ (main p v : Bytes) (xs : List ModuleVersion) (formed : AllByRecursion (λ x. is_path x.path ≡ true) xs) (up : AscendingRows xs) (apart : AllByRecursion (λ x. x.path ≡ main → ⊥) xs) where
-  is_list_here : IsList (bare main) (main_row (bare main) ∷ xs)
-  is_list_here = (xs, refl, up, apart)
-
-  pub ceilings_formed : AllByRecursion (λ c. is_path c.path ≡ true) (map (ceiling_of p v) xs)
-  ceilings_formed = go xs formed
-    where
-      one : (x : ModuleVersion) → is_path x.path ≡ true → is_path (ceiling_of p v x).path ≡ true
-      one x t = by (same_path x p)
-        where
-          by : (b : Bool) → is_path (cond b (at x.path v) x).path ≡ true
-          by true = t
-          by false = t
-
-      go : (ys : List ModuleVersion) → AllByRecursion (λ y. is_path y.path ≡ true) ys → AllByRecursion (λ c. is_path c.path ≡ true) (map (ceiling_of p v) ys)
-      go [] h = tt
-      go (y ∷ ys) h = (one y h.0, go ys h.1)
-
-  pub ceilings_up : AscendingRows (map (ceiling_of p v) xs)
-  ceilings_up = ceilings_ascend (bare main) p v (main_row (bare main) ∷ xs) is_list_here
-
-  pub ceilings_off : AllByRecursion (λ c. c.path ≡ main → ⊥) (map (ceiling_of p v) xs)
-  ceilings_off = all_from_members (λ c. c.path ≡ main → ⊥) (map (ceiling_of p v) xs) (ceilings_apart (bare main) p v (main_row (bare main) ∷ xs) is_list_here)
+  -- by the answer
+  pub ended_told : (r : Result Lowered C.Refusal) → EndsAs {A = Lowered} whole r left → IfOk r (λ l. l.counts.places ≡ length left) → IfOk r (λ l. l.counts.rows ≡ length cs + 1)
+      → IfOk r (λ l. requirement_names l.kept ≡ kept_rows w cs) → (n : ℕ) (after : List Place) → map place_of after ≡ filled blank_place n (take 256 whole.sheet) → told_of r after ≡ told_under w n cs
+  ended_told (Ok l) t places rows kept n after e =
+      same_told _ _ (done_reply l t l.counts.places l.counts.rows places ∙ ap (λ (k : ℕ). replied whole.end (length whole.sheet) k) rows) (done_kept l t (requirement_names l.kept) (kept_rows w cs) kept) e
+  ended_told (Err s) t places rows kept n after e = same_told _ _ (stopped_reply s t (length cs + 1)) (stopped_kept s t (kept_rows w cs)) e
 
 -- ---- the list
 
@@ -215,7 +199,7 @@ module _ (w : View) (start : List ModuleVersion) where
     unfolding walk_from
     walk_good =
         begun_keeps (remaining w) (off_main w.main start) (first_sheet (bare w.main)) Good
-        (λ t y h new g. push t y 0 (all_member (λ z. is_module_version z ≡ true) (off_main w.main start) (all_kept_by (λ z. not (same_path z w.main)) (λ z. is_module_version z ≡ true) start starts) y h) g)
+        (λ t y h new g. push t y 0 (all_member (λ z. is_module_version z ≡ true) (off_main w.main start) (each_filtered (λ z. is_module_version z ≡ true) (λ z. not (same_path z w.main)) start starts) y h) g)
         (λ k t r ys y l e a h new g. push t y k (all_member (λ z. is_module_version z ≡ true) ys (required_formed w law r.row ys a) y h) g)
         (begun_of (remaining w) (off_main w.main start) (first_sheet (bare w.main)))
         (λ x h. ⊎_elim (λ e. inl e) (λ z. absurd z) h)
@@ -255,46 +239,30 @@ module _ (w : View) (start : List ModuleVersion) where
         ∙ ap (λ (d : End). if_done d (lowers_listed w start p v n) (left_as_listed w start n (lists_from w start n).reply)) g.1
 
     -- what it replies, keeps and leaves, from the rows behind the main row
-    under_alike : (b : Bool) → cond b (lowers_under w start n (ceilings p v (old_from w start))).reply (refused (refusal_for nothing_to_change))
-        ≡ (cond b (lowers_under w start n (ceilings p v (old_from w start))) (left_as_listed w start n (refused (refusal_for nothing_to_change)))).reply
-    under_alike true = refl
-    under_alike false = refl
+    pub given_told : (xs : List ModuleVersion) → xs ≡ behind → (before : List R.Place) → length before ≡ n.sheet → (list : List ModuleVersion)
+        → ◌≡◌ {A = Slices} (record { sheet = before; list = list }) (lists_from w start n).slices → beside list (told_from w p v xs before) ≡ lowers_from w start p v n
+    given_told xs is before long list q = ap (λ (ys : List ModuleVersion). beside list (told_from w p v ys before)) is ∙ go (lowerable p v behind) ∙ sym given_lower
+      where
+        cs : List ModuleVersion
+        cs = map (ceiling_of p v) behind
 
-    kept_alike : (b : Bool) → cond b (lowers_under w start n (ceilings p v (old_from w start))).kept None
-        ≡ (cond b (lowers_under w start n (ceilings p v (old_from w start))) (left_as_listed w start n (refused (refusal_for nothing_to_change)))).kept
-    kept_alike true = refl
-    kept_alike false = refl
+        made : ℕ → ℕ → List ModuleVersion → Lowering
+        made k a l = record {
+          reply = replied (lower_walk_from w cs).end (length (lower_walk_from w cs).sheet) k;
+          kept = if_done (lower_walk_from w cs).end (Some (kept_rows w cs)) None;
+          slices = record { sheet = filled blank_place a (take 256 (lower_walk_from w cs).sheet); list = l };
+        }
 
-    slices_alike : (b : Bool) (list : List ModuleVersion) (before : List R.Place) → ◌≡◌ {A = Slices} (record { sheet = before; list = list }) (lists_from w start n).slices
-        → ◌≡◌ {A = Slices} (record { sheet = cond b (filled blank_place n.sheet (take 256 (lower_walk_from w (ceilings p v (old_from w start))).sheet)) before; list = list })
-        (cond b (lowers_under w start n (ceilings p v (old_from w start))) (left_as_listed w start n (refused (refusal_for nothing_to_change)))).slices
-    slices_alike true list before e =
-        ap (λ (l : List ModuleVersion). record { sheet = filled blank_place n.sheet (take 256 (lower_walk_from w (ceilings p v (old_from w start))).sheet); list = l }) (ap (λ (s : Slices). s.list) (e ∙ given_slices))
-    slices_alike false list before e = e
+        one_more : length cs + 1 ≡ length (old_from w start)
+        one_more = omega (arith, length-map behind (ceiling_of p v))
 
-    module _ (xs : List ModuleVersion) (is : xs ≡ behind) where
-      pub given_reply : (k : ℕ) → k ≡ length behind
-          → cond (lowerable p v xs) (replied (lower_walk_from w (map (ceiling_of p v) xs)).end (length (lower_walk_from w (map (ceiling_of p v) xs)).sheet) (k + 1)) (refused (refusal_for nothing_to_change))
-          ≡ (lowers_from w start p v n).reply
-      given_reply k e =
-          ap (λ ys. cond (lowerable p v ys) (replied (lower_walk_from w (map (ceiling_of p v) ys)).end (length (lower_walk_from w (map (ceiling_of p v) ys)).sheet) (k + 1)) (refused (refusal_for nothing_to_change))) is
-          ∙ ap (λ j. cond (lowerable p v behind) (replied (lower_walk_from w (map (ceiling_of p v) behind)).end (length (lower_walk_from w (map (ceiling_of p v) behind)).sheet) j) (refused (refusal_for nothing_to_change))) one_more
-          ∙ under_alike (lowerable p v behind) ∙ ap (λ (l : Lowering). l.reply) (sym given_lower)
-        where
-          one_more : k + 1 ≡ length (old_from w start)
-          one_more = omega (arith, e)
+        as_listed : list ≡ filled blank n.list (old_from w start)
+        as_listed = ap (λ (s : Slices). s.list) (q ∙ given_slices)
 
-      pub given_kept : cond (lowerable p v xs) (if_done (lower_walk_from w (map (ceiling_of p v) xs)).end (Some (kept_rows w (map (ceiling_of p v) xs))) None) None ≡ (lowers_from w start p v n).kept
-      given_kept =
-          ap (λ ys. cond (lowerable p v ys) (if_done (lower_walk_from w (map (ceiling_of p v) ys)).end (Some (kept_rows w (map (ceiling_of p v) ys))) None) None) is
-          ∙ kept_alike (lowerable p v behind) ∙ ap (λ (l : Lowering). l.kept) (sym given_lower)
-
-      pub given_after : (a : ℕ) → a ≡ n.sheet → (list : List ModuleVersion) (before : List R.Place) → ◌≡◌ {A = Slices} (record { sheet = before; list = list }) (lists_from w start n).slices
-          → ◌≡◌ {A = Slices} (record { sheet = cond (lowerable p v xs) (filled blank_place a (take 256 (lower_walk_from w (map (ceiling_of p v) xs)).sheet)) before; list = list }) (lowers_from w start p v n).slices
-      given_after a e list before q =
-          ap (λ ys. record { sheet = cond (lowerable p v ys) (filled blank_place a (take 256 (lower_walk_from w (map (ceiling_of p v) ys)).sheet)) before; list = list }) is
-          ∙ ap (λ j. record { sheet = cond (lowerable p v behind) (filled blank_place j (take 256 (lower_walk_from w (map (ceiling_of p v) behind)).sheet)) before; list = list }) e
-          ∙ slices_alike (lowerable p v behind) list before q ∙ ap (λ (l : Lowering). l.slices) (sym given_lower)
+        go : (b : Bool) → beside list (cond {A = LowerTold} b (told_under w (length before) cs) (record { reply = refused (refusal_for nothing_to_change); kept = None; sheet = before }))
+            ≡ cond b (lowers_under w start n (ceilings p v (old_from w start))) (left_as_listed w start n (refused (refusal_for nothing_to_change)))
+        go true = ap (λ (k : ℕ). made k (length before) list) one_more ∙ ap (λ (a : ℕ). made (length (old_from w start)) a list) long ∙ ap (made (length (old_from w start)) n.sheet) as_listed
+        go false = ap (λ (s : Slices). record { reply = refused (refusal_for nothing_to_change); kept = None; slices = s }) q
 
   -- where it is refused
   pub refused_lower : (p v : Bytes) (n : Lent) (r : Refusal) → refused r ≡ (lists_from w start n).reply → lowers_from w start p v n ≡ left_as_listed w start n (refused r)

@@ -1,18 +1,18 @@
 -- That the rows which are kept are the kept rows of the rules. Assumes nothing.
-use Rattle.std.proofs.Common.{◌≡◌, ℕ, zero, suc, ◌+◌, ◌<◌, ◌≤◌, Bool, true, false, cond, ◌⊎◌, List, [], ◌∷◌, ◌++◌, map, length, get_or, take, drop, replicate, Some, None, Ok, Err, Ordering, Less, Equal, Greater, sym, refl, ap, ◌∙◌, subst, inl, inr, ⊎_elim, true≢false, arith}
+use Rattle.std.proofs.Common.{◌≡◌, ℕ, zero, suc, ◌+◌, ◌-◌, ◌<◌, ◌≤◌, Bool, true, false, cond, ◌⊎◌, List, [], ◌∷◌, ◌++◌, map, length, get_or, take, drop, replicate, Some, Ok, Err, Ordering, Less, Equal, Greater, sym, refl, ap, ◌∙◌, subst, inl, inr, ⊎_elim, true≢false, arith}
 use Rattle.std.specs.List.{slice_get, AllByRecursion}
 use Rattle.std.specs.Ordering.{is_lt, is_eq}
-use Rattle.std.proofs.lemmas.List.{append-nil, append_assoc, take_all, take-take, take-map, length-take}
+use Rattle.std.proofs.lemmas.List.{append-nil, append_assoc, take_all, take-map, length-take, drop-take}
 use Rattle.std.proofs.lemmas.Bool.{or_cases, cases_Bool, and_from}
 use Rattle.rules.specs.Texts.{every}
 use Rattle.rules.specs.Paths.{path_order, is_path}
 use Rattle.rules.specs.Versions.{is_version}
 use Rattle.rules.specs.Names.{ModuleVersion, is_module_version, Below, has, ◌∈◌}
 use Rattle.rules.specs.Causes.{Fault, Refusal, is_missing}
-use Rattle.rules.specs.Sources.{Answer, found, fault, Lawful}
+use Rattle.rules.specs.Sources.{Answer, found, fault, Lawful, Meaning}
 use Rattle.rules.specs.Projects.{View, main_row, remaining}
 use Rattle.rules.specs.Tables.{keep, entered_by, entered_all}
-use Rattle.rules.specs.Rows.{path_of, higher, with_row, table, AscendingRows}
+use Rattle.rules.specs.Rows.{path_of, higher, with_row, table}
 use Rattle.rules.specs.Walks as R
 use Rattle.rules.specs.Walks.{module_versions, written, Walked, End, done, stopped, no_room, ended, walk, first_sheet}
 use Rattle.rules.specs.Lowers.{Above, is_above, is_bad, is_missing_answer, Missing, Leads, itself, through, Allowed, Kept, Ahead, offers, offers_written, kept_rows, lower_ask}
@@ -27,19 +27,22 @@ use Rattle.rules.proofs.Sheets.{length_module_versions}
 use Rattle.rules.proofs.Marks.{Whole, kept_only}
 use Rattle.rules.specs.Calls.{if_done}
 use Rattle.causes.specs.Told.{refusal_of}
+use Rattle.causes.specs.declared.refusal.Refusal as C
 use Rattle.walks.specs.declared.place.Place.{Place}
-use Rattle.walks.specs.declared.stop.Stop.{Stop}
 use Rattle.walks.specs.Places.{place_of}
-use Rattle.walks.specs.Stops.{Tells, refused_by}
-use Rattle.walks.specs.Views.{bare, Formed}
-use Rattle.walks.proofs.Telling.{tells_by}
-use Rattle.walks.proofs.Walking.{formed_written}
+use Rattle.walks.specs.Sheets.{EndsAs, refused_by}
+use Rattle.walks.specs.Views.{bare, seen_by, Formed}
+use Rattle.walks.proofs.Telling.{ended_done, ends_by, ends_so}
+use Rattle.walks.proofs.Walking.{place_of_row, formed_written}
 use Rattle.lowers.specs.Lowered.{lower_walk_from}
+use Rattle.lowers.specs.declared.ceilings.Ceilings.{Ceilings}
+use Rattle.lowers.specs.Ceilings.{ceiling_rows}
 use Rattle.lowers.specs.declared.learned.Edge.{Edge}
 use Rattle.lowers.specs.declared.learned.Learned.{Learned}
 use Rattle.lowers.specs.Learned.{edges_in, is_marked, Cleared, Knows}
 use Rattle.lowers.specs.Spreads.{Narrow, LeadsToMark, here, along, SpreadOut, spared}
-use Rattle.lowers.proofs.Edging.{Extends, row_place, place_row}
+use Rattle.lowers.proofs.Looking.{ceilings_up, ceilings_formed}
+use Rattle.lowers.proofs.Edging.{Extends, place_row}
 use Rattle.lowers.proofs.Offering.{followed, offers_followed}
 use Rattle.lowers.proofs.Keeping.{with_first}
 
@@ -191,11 +194,6 @@ every_one (x ∷ xs) h = and_from _ _ (h x (inl refl)) (every_one xs (λ y k. h 
 abbrev Next : Type 0
 Next = List R.Place → Walked
 
-ended_done : (e : End) → None ≡ refused_by e → e ≡ done
-ended_done done q = refl
-ended_done (stopped k f) q = let z : ◌≡◌ {A = ℕ} 0 1 = cc in absurd (omega arith)
-ended_done no_room q = let z : ◌≡◌ {A = ℕ} 0 1 = cc in absurd (omega arith)
-
 -- what is refused does not go on
 pub followed_not : (next : Next) (v : Walked) (r : Refusal) → Some r ≡ refused_by v.end → followed next v ≡ v
 followed_not next v r q = go v.end q
@@ -206,30 +204,30 @@ followed_not next v r q = go v.end q
     go no_room t = refl
 
 -- a walk from place 1 that is done goes on the sheet that it began with
-module _ (ask : ModuleVersion → Answer (List ModuleVersion)) (s : List R.Place) (short : length s ≤ 256) (n : ℕ) (after : List Place) (t : Tells (walk ask 255 1 s) (Ok n) after) where
+module _ (ask : ModuleVersion → Answer (List ModuleVersion)) (s : List R.Place) (short : length s ≤ 256) (left : List R.Place) (t : EndsAs {A = Unit {0}} (walk ask 255 1 s) (Ok tt) left) where
   walk_short : length (walk ask 255 1 s).sheet ≤ 256
   walk_short = run_room ask (run_of ask 255 1 s refl short) short (λ e. let d = ended_done (walk ask 255 1 s).end t.refused in let z : ◌≡◌ {A = ℕ} 0 1 = cc in omega arith)
 
-  pub walk_sheet : map place_of (take n after) ≡ (walk ask 255 1 s).sheet
+  walk_sheet : left ≡ (walk ask 255 1 s).sheet
   walk_sheet = t.items ∙ take_all 256 (walk ask 255 1 s).sheet walk_short
 
-  pub walk_count : n ≡ length (walk ask 255 1 s).sheet
-  walk_count = t.places ∙ ap length (take_all 256 (walk ask 255 1 s).sheet walk_short)
+  pub walk_few : length left ≤ 256
+  walk_few = omega (arith, ap length walk_sheet, walk_short)
 
-  pub walk_few : n ≤ 256
-  walk_few = omega (arith, walk_count, walk_short)
-
-  pub walk_extends : Extends (module_versions s) (module_versions (map place_of (take n after)))
+  pub walk_extends : Extends (module_versions s) (module_versions left)
   walk_extends = subst (λ u. Extends (module_versions s) (module_versions u)) (sym walk_sheet) on
     where
       on : Extends (module_versions s) (module_versions (walk ask 255 1 s).sheet)
       on i x e =
-          let (r, m, q) = row_place s i x e in
+          let (r, m, q) = place_of_row s i x e in
           place_row (walk ask 255 1 s).sheet i r (run_keeps ask 1 (λ u. slice_get u i ≡ Some r) (λ k u p ys y l o a h new j. nth_left u (placed y k ∷ []) i r j) (run_of ask 255 1 s refl short) (omega arith) m) ∙ ap Some q
 
 -- ---- lower under ceilings
 
-module _ (w : View) (law : Lawful w.layer) (cs : List ModuleVersion) (up : AscendingRows cs) (apart : AllByRecursion (λ c. c.path ≡ w.main → ⊥) cs) (formed : AllByRecursion (λ c. is_path c.path ≡ true) cs) where
+module _ (w : View) (law : Lawful w.layer) (over : Ceilings) (apart : AllByRecursion (λ c. c.path ≡ w.main → ⊥) (ceiling_rows over)) where
+  abbrev cs : List ModuleVersion
+  cs = ceiling_rows over
+
   abbrev base : List R.Place
   base = first_sheet (bare w.main)
 
@@ -240,7 +238,7 @@ module _ (w : View) (law : Lawful w.layer) (cs : List ModuleVersion) (up : Ascen
   first = written 0 offered base
 
   ordered : Ordered offered
-  ordered = offers_ordered w.layer law.ascending cs up
+  ordered = offers_ordered w.layer law.ascending cs (ceilings_up over)
 
   offered_apart : (x : ModuleVersion) → x ∈ offered → x.path ≡ w.main → ⊥
   offered_apart x h q = let (c, k, r) = offers_was w.layer cs x h in all_member (λ c. c.path ≡ w.main → ⊥) cs apart c k (r ∙ q)
@@ -251,7 +249,7 @@ module _ (w : View) (law : Lawful w.layer) (cs : List ModuleVersion) (up : Ascen
   offered_formed : (x : ModuleVersion) → x ∈ offered → is_module_version x ≡ true
   offered_formed x h =
       let (c, k, p, u, (vs, l, i)) = offers_offered w.layer cs x h in
-      and_from _ _ (subst (λ q. is_path q ≡ true) p (all_member (λ c. is_path c.path ≡ true) cs formed c k)) (all_member (λ v. is_version v ≡ true) vs (law.versions_formed x.path vs l) x.version i)
+      and_from _ _ (subst (λ q. is_path q ≡ true) p (all_member (λ c. is_path c.path ≡ true) cs (ceilings_formed over) c k)) (all_member (λ v. is_version v ≡ true) vs (law.versions_formed x.path vs l) x.version i)
 
   base_formed : Formed base
   base_formed zero r l e = absurd (omega arith)
@@ -261,49 +259,48 @@ module _ (w : View) (law : Lawful w.layer) (cs : List ModuleVersion) (up : Ascen
   first_formed = formed_written 0 offered base (all_from_members (λ x. is_module_version x ≡ true) offered offered_formed) base_formed
 
   -- what the code says of the offers
-  abbrev pub Begun : ℕ → List Place → Type 0
-  Begun n after = (map place_of (take n after) ≡ first) × (length first ≤ 256) × (n ≡ length first) × (lower_walk_from w cs ≡ walk (lower_ask w cs) 255 1 first)
+  abbrev pub Begun : List R.Place → Type 0
+  Begun left = (left ≡ first) × (length first ≤ 256) × (lower_walk_from w cs ≡ walk (lower_ask w cs) 255 1 first)
 
-  pub begun : (n : ℕ) (after : List Place) → Tells (offers_written w.layer (ended done) cs base) (Ok n) after → Begun n after
+  pub begun : (start left : List R.Place) → start ≡ base → EndsAs {A = Unit {0}} (offers_written w.layer (ended done) cs start) (Ok tt) left → Begun left
   unfolding lower_walk_from
-  begun n after t = go (offers_written w.layer (ended done) cs base) refl (offering w.layer (ended done) cs base (omega arith)) t
+  begun start left b t =
+      go (offers_written w.layer (ended done) cs base) refl (offering w.layer (ended done) cs base (omega arith)) (subst (λ (u : List R.Place). EndsAs {A = Unit {0}} (offers_written w.layer (ended done) cs u) (Ok tt) left) b t)
     where
-      go : (v : Walked) → offers_written w.layer (ended done) cs base ≡ v → Offering w.layer (ended done) cs base v → Tells v (Ok n) after → Begun n after
+      go : (v : Walked) → offers_written w.layer (ended done) cs base ≡ v → Offering w.layer (ended done) cs base v → EndsAs {A = Unit {0}} v (Ok tt) left → Begun left
       go v e (unlisted front back c q ls g is) k = let r = k.refused ∙ ap (λ (u : Walked). refused_by u.end) is in let z : ◌≡◌ {A = ℕ} 0 1 = cc in absurd (omega arith)
       go v e (overfull front back q h is) k = let r = k.refused ∙ ap (λ (u : Walked). refused_by u.end) is in let z : ◌≡◌ {A = ℕ} 0 1 = cc in absurd (omega arith)
       go v e (all_offered ls h is) k =
-          let j = subst (λ (u : Walked). Tells u (Ok n) after) is k in (
+          let j = subst (λ (u : Walked). EndsAs {A = Unit {0}} u (Ok tt) left) is k in (
             j.items ∙ take_all 256 first h,
             h,
-            j.places ∙ ap length (take_all 256 first h),
             offers_followed w.layer (walk (lower_ask w cs) 255 1) cs base ∙ ap (followed (walk (lower_ask w cs) 255 1)) (e ∙ is),
           )
 
-  pub not_begun : (s : Stop) (after : List Place) → Tells (offers_written w.layer (ended done) cs base) (Err s) after → Tells (lower_walk_from w cs) (Err s) after
+  pub not_begun : {A : Type 0} (s : C.Refusal) (start left : List R.Place) → start ≡ base → EndsAs {A = Unit {0}} (offers_written w.layer (ended done) cs start) (Err s) left → EndsAs {A = A} (lower_walk_from w cs) (Err s) left
   unfolding lower_walk_from
-  not_begun s after t =
-      tells_by _ (offers_written w.layer (ended done) cs base) (Err s) after
-      (offers_followed w.layer (walk (lower_ask w cs) 255 1) cs base ∙ followed_not (walk (lower_ask w cs) 255 1) (offers_written w.layer (ended done) cs base) (refusal_of s.refusal) t.refused) t
+  not_begun {A} s start left b t =
+      let k = subst (λ (u : List R.Place). EndsAs {A = Unit {0}} (offers_written w.layer (ended done) cs u) (Err s) left) b t in
+      ends_by _ (offers_written w.layer (ended done) cs base) (Err s) left
+      (offers_followed w.layer (walk (lower_ask w cs) 255 1) cs base ∙ followed_not (walk (lower_ask w cs) 255 1) (offers_written w.layer (ended done) cs base) (refusal_of s) k.refused) (ends_so _ s left k)
 
   pub begun_long : 1 ≤ length first
   begun_long = omega (arith, written_longer 0 offered base)
 
   -- the offers stand behind the main row
-  pub front_offered : (o n : ℕ) (after : List Place) → o ≡ length first → o ≤ n → Extends (module_versions first) (module_versions (map place_of (take n after)))
-      → module_versions (map place_of (drop 1 (take o after))) ≡ offered
-  front_offered o n after is fits more = dropped (take o after) ∙ ap (drop 1) (front ∙ first_rows)
+  pub front_offered : (o : ℕ) (ps : List Place) → o ≡ length first → Extends (module_versions first) (module_versions (map place_of ps)) → module_versions (map place_of (drop 1 (take o ps))) ≡ offered
+  front_offered o ps is more = dropped (take o ps) ∙ ap (drop 1) (front ∙ first_rows)
     where
       dropped : (xs : List Place) → module_versions (map place_of (drop 1 xs)) ≡ drop 1 (module_versions (map place_of xs))
       dropped [] = refl
       dropped (x ∷ xs) = refl
 
-      front : module_versions (map place_of (take o after)) ≡ module_versions first
+      front : module_versions (map place_of (take o ps)) ≡ module_versions first
       front =
-          ap (λ (xs : List Place). module_versions (map place_of xs)) (sym (take-take o n after fits))
-          ∙ ap module_versions (sym (take-map place_of o (take n after)))
-          ∙ sym (take-map (λ (r : R.Place). r.row) o (map place_of (take n after)))
-          ∙ ap (λ (j : ℕ). take j (module_versions (map place_of (take n after)))) (is ∙ sym (length_module_versions first))
-          ∙ extends_front (module_versions first) (module_versions (map place_of (take n after))) more
+          ap module_versions (sym (take-map place_of o ps))
+          ∙ sym (take-map (λ (r : R.Place). r.row) o (map place_of ps))
+          ∙ ap (λ (j : ℕ). take j (module_versions (map place_of ps))) (is ∙ sym (length_module_versions first))
+          ∙ extends_front (module_versions first) (module_versions (map place_of ps)) more
 
   pub knows_narrow : (s : List R.Place) (l : Learned) (n : ℕ) → Knows w cs s l n → length s ≤ 256 → Narrow (edges_in l)
   knows_narrow s l n knows few e h =
@@ -312,7 +309,7 @@ module _ (w : View) (law : Lawful w.layer) (cs : List ModuleVersion) (up : Ascen
 
   -- after the walk: s is the sheet, l what was learned, and k the same with the marks spread
   module _ (s : List R.Place) (more : Extends (module_versions first) (module_versions s)) (few : length (module_versions s) ≤ 256) (l k : Learned) (knows : Knows w cs s l (length (module_versions s)))
-      (spread : SpreadOut l k) (same_edges : edges_in k ≡ edges_in l) where
+      (spread : SpreadOut (edges_in l) l.marked k.marked) where
     abbrev rows : List ModuleVersion
     rows = module_versions s
 
@@ -355,11 +352,11 @@ module _ (w : View) (law : Lawful w.layer) (cs : List ModuleVersion) (up : Ascen
 
         free : is_marked k there.0.to ≡ false
         free = ⊎_elim
-            (λ h. absurd (true≢false (sym (subst (λ j. is_marked k j ≡ true) there.2 (spread.closed there.0 (subst (λ es. there.0 ∈ es) (sym same_edges) there.1) h)) ∙ t)))
+            (λ h. absurd (true≢false (sym (subst (λ j. is_marked k j ≡ true) there.2 (spread.closed there.0 there.1 h)) ∙ t)))
             (λ h. h) (cases_Bool (is_marked k there.0.to))
 
     -- what leads to a mark is not
-    marked_bars : {i : ℕ} → LeadsToMark l i → (x : ModuleVersion) → slice_get rows i ≡ Some x → Allowed w cs x → ⊥
+    marked_bars : {i : ℕ} → LeadsToMark (edges_in l) l.marked i → (x : ModuleVersion) → slice_get rows i ≡ Some x → Allowed w cs x → ⊥
     marked_bars (here {i} t) x n free = ⊎_elim (free x itself).0 (free x itself).1 (bad_meets x (knows.marked i x (nth_within rows i x n) n t))
     marked_bars (along {e} h rest) x n free =
         let (a, b, p, q, r) = knows.edges e h in
@@ -406,53 +403,79 @@ module _ (w : View) (law : Lawful w.layer) (cs : List ModuleVersion) (up : Ascen
     pub kept_formed : every is_module_version (entered_all path_of path_order keep [] (spared (is_marked k) 1 offered)) ≡ true
     kept_formed = subst (λ xs. every is_module_version xs ≡ true) (sym first_table) (every_one (table spares) (λ x h. offered_formed x (spared_member (is_marked k) 1 offered x (table_was spares x h))))
 
-  -- what the code says of the walk
-  module _ (o n : ℕ) (mid after : List Place) (b : Begun o mid) (t : Tells (walk (lower_ask w cs) 255 1 (map place_of (take o mid))) (Ok n) after) (l : Learned)
-      (knows : Knows w cs (map place_of (take n after)) l n) where
-    told : Tells (walk (lower_ask w cs) 255 1 first) (Ok n) after
-    told = subst (λ (u : List R.Place). Tells (walk (lower_ask w cs) 255 1 u) (Ok n) after) b.0 t
+  -- what the code says of the offers, and then of the walk
+  module _ (start mid : List R.Place) (begins : start ≡ base) (offers_told : EndsAs {A = Unit {0}} (offers_written w.layer (ended done) cs start) (Ok tt) mid) where
+    b : Begun mid
+    b = begun start mid begins offers_told
 
-    pub value_told : Tells (lower_walk_from w cs) (Ok n) after
-    value_told = tells_by _ (walk (lower_ask w cs) 255 1 first) (Ok n) after b.3 told
+    pub mid_long : 1 ≤ length mid
+    mid_long = omega (arith, ap length b.0, begun_long)
 
-    goes_on : Extends (module_versions first) (module_versions (map place_of (take n after)))
-    goes_on = walk_extends (lower_ask w cs) first b.1 n after told
+    pub mid_formed : Formed mid
+    mid_formed = subst Formed (sym b.0) first_formed
 
-    counts : n ≡ length (module_versions (map place_of (take n after)))
-    counts = walk_count (lower_ask w cs) first b.1 n after told ∙ ap length (sym (walk_sheet (lower_ask w cs) first b.1 n after told)) ∙ sym (length_module_versions (map place_of (take n after)))
+    module _ (m : Meaning) (same : m ≡ w.layer) where
+      pub stopped_told : {A : Type 0} (s : C.Refusal) (left : List R.Place) → EndsAs {A = Unit {0}} (walk (lower_ask (seen_by w.main m) cs) 255 1 mid) (Err s) left → EndsAs {A = A} (lower_walk_from w cs) (Err s) left
+      stopped_told {A} s left t =
+          let k = subst (λ (q : Meaning). EndsAs {A = Unit {0}} (walk (lower_ask (seen_by w.main q) cs) 255 1 mid) (Err s) left) same t in
+          ends_by _ (walk (lower_ask w cs) 255 1 first) (Err s) left b.2 (ends_so _ s left (subst (λ (u : List R.Place). EndsAs {A = Unit {0}} (walk (lower_ask w cs) 255 1 u) (Err s) left) b.0 k))
 
-    no_shorter : o ≤ n
-    no_shorter =
-        omega (
-          arith,
-          b.2,
-          counts,
-          length_module_versions first,
-          ap length (extends_front (module_versions first) (module_versions (map place_of (take n after))) goes_on),
-          length-take (length (module_versions first)) (module_versions (map place_of (take n after))),
-        )
+      module _ (left : List R.Place) (t : EndsAs {A = Unit {0}} (walk (lower_ask (seen_by w.main m) cs) 255 1 mid) (Ok tt) left) where
+        told : EndsAs {A = Unit {0}} (walk (lower_ask w cs) 255 1 first) (Ok tt) left
+        told =
+            subst (λ (u : List R.Place). EndsAs {A = Unit {0}} (walk (lower_ask w cs) 255 1 u) (Ok tt) left) b.0
+            (subst (λ (q : Meaning). EndsAs {A = Unit {0}} (walk (lower_ask (seen_by w.main q) cs) 255 1 mid) (Ok tt) left) same t)
 
-    pub narrow_told : Narrow (edges_in l)
-    narrow_told = knows_narrow (map place_of (take n after)) l n knows (omega (arith, counts, length_module_versions (map place_of (take n after)), walk_few (lower_ask w cs) first b.1 n after told))
+        pub value_told : {A : Type 0} (x : A) → EndsAs {A = A} (lower_walk_from w cs) (Ok x) left
+        value_told x = ends_by _ (walk (lower_ask w cs) 255 1 first) (Ok x) left b.2 (record { refused = told.refused; items = told.items })
 
-    module _ (k : Learned) (spread : SpreadOut l k) (same_edges : edges_in k ≡ edges_in l) where
-      abbrev kept_here : List ModuleVersion
-      kept_here = entered_all path_of path_order keep [] (spared (is_marked k) 1 (module_versions (map place_of (drop 1 (take o after)))))
+        goes_on : Extends (module_versions first) (module_versions left)
+        goes_on = walk_extends (lower_ask w cs) first b.1 left told
 
-      here_is : kept_here ≡ entered_all path_of path_order keep [] (spared (is_marked k) 1 offered)
-      here_is = ap (λ xs. entered_all path_of path_order keep [] (spared (is_marked k) 1 xs)) (front_offered o n after b.2 no_shorter goes_on)
+        few : length left ≤ 256
+        few = walk_few (lower_ask w cs) first b.1 left told
 
-      all_known : Knows w cs (map place_of (take n after)) l (length (module_versions (map place_of (take n after))))
-      all_known = subst (λ (j : ℕ). Knows w cs (map place_of (take n after)) l j) counts knows
+        pub first_within : length mid ≤ length left
+        first_within =
+            omega (
+              arith,
+              ap length b.0,
+              length_module_versions first,
+              length_module_versions left,
+              ap length (extends_front (module_versions first) (module_versions left) goes_on),
+              length-take (length (module_versions first)) (module_versions left),
+            )
 
-      short : length (module_versions (map place_of (take n after))) ≤ 256
-      short = omega (arith, counts, walk_few (lower_ask w cs) first b.1 n after told)
+        module _ (l : Learned) (knows : Knows (seen_by w.main m) cs left l (length left)) where
+          known : Knows w cs left l (length left)
+          known = subst (λ (q : Meaning). Knows (seen_by w.main q) cs left l (length left)) same knows
 
-      pub kept_told : kept_here ≡ kept_rows w cs
-      kept_told = here_is ∙ kept_is (map place_of (take n after)) goes_on short l k all_known spread same_edges
+          pub narrow_told : Narrow (edges_in l)
+          narrow_told = knows_narrow left l (length left) known few
 
-      pub formed_told : every is_module_version kept_here ≡ true
-      formed_told = subst (λ xs. every is_module_version xs ≡ true) (sym here_is) (kept_formed (map place_of (take n after)) goes_on short l k all_known spread same_edges)
+          module _ (k : Learned) (spread : SpreadOut (edges_in l) l.marked k.marked) (ps : List Place) (held : map place_of ps ≡ left) (o : ℕ) (counts : o ≡ length mid) where
+            abbrev kept_here : List ModuleVersion
+            kept_here = entered_all path_of path_order keep [] (spared (is_marked k) 1 (module_versions (map place_of (take (o - 1) (drop 1 ps)))))
 
-  pub stopped_told : (o : ℕ) (s : Stop) (mid after : List Place) → Begun o mid → Tells (walk (lower_ask w cs) 255 1 (map place_of (take o mid))) (Err s) after → Tells (lower_walk_from w cs) (Err s) after
-  stopped_told o s mid after b t = tells_by _ (walk (lower_ask w cs) 255 1 first) (Err s) after b.3 (subst (λ (u : List R.Place). Tells (walk (lower_ask w cs) 255 1 u) (Err s) after) b.0 t)
+            front : o ≡ length first
+            front = counts ∙ ap length b.0
+
+            behind_main : take (o - 1) (drop 1 ps) ≡ drop 1 (take o ps)
+            behind_main = let up : 1 + (o - 1) ≡ o = omega (arith, front, begun_long) in sym (drop-take 1 (o - 1) ps) ∙ ap (λ (j : ℕ). drop 1 (take j ps)) up
+
+            here_is : kept_here ≡ entered_all path_of path_order keep [] (spared (is_marked k) 1 offered)
+            here_is =
+                ap (λ xs. entered_all path_of path_order keep [] (spared (is_marked k) 1 xs))
+                (ap (λ (qs : List Place). module_versions (map place_of qs)) behind_main ∙ front_offered o ps front (subst (λ (u : List R.Place). Extends (module_versions first) (module_versions u)) (sym held) goes_on))
+
+            all_known : Knows w cs left l (length (module_versions left))
+            all_known = subst (λ (j : ℕ). Knows w cs left l j) (sym (length_module_versions left)) known
+
+            short : length (module_versions left) ≤ 256
+            short = omega (arith, few, length_module_versions left)
+
+            pub kept_told : kept_here ≡ kept_rows w cs
+            kept_told = here_is ∙ kept_is left goes_on short l k all_known spread
+
+            pub formed_told : every is_module_version kept_here ≡ true
+            formed_told = subst (λ xs. every is_module_version xs ≡ true) (sym here_is) (kept_formed left goes_on short l k all_known spread)

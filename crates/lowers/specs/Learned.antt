@@ -1,5 +1,5 @@
 -- What is learned of the places of a sheet, told as the rules say it. Assumes nothing.
-use Rattle.std.specs.Prelude.{◌≡◌, ℕ, ◌+◌, ◌*◌, ◌<◌, ◌≤◌, Bool, true, false, ◌⊎◌, List, length, take, Some, Ok, Err, Result, slice_index_or}
+use Rattle.std.specs.Prelude.{◌≡◌, ℕ, ◌+◌, ◌*◌, ◌<◌, ◌≤◌, Bool, true, false, ◌⊎◌, List, length, Some, slice_index_or}
 use Rattle.std.specs.List.{slice_get}
 use Rattle.rules.specs.Names.{ModuleVersion, ◌∈◌}
 use Rattle.rules.specs.Sources.{found}
@@ -7,19 +7,12 @@ use Rattle.rules.specs.Projects.{View, remaining, Requires}
 use Rattle.rules.specs.Walks as R
 use Rattle.rules.specs.Walks.{module_versions}
 use Rattle.rules.specs.Lowers.{is_above, is_bad}
-use Rattle.walks.specs.declared.stop.Stop.{Stop}
 use Rattle.lowers.specs.declared.learned.Edge.{Edge}
 use Rattle.lowers.specs.declared.learned.Learned.{Learned}
-use Rattle.lowers.specs.declared.sheet.Written.{Written}
-
--- how many places there are
-abbrev pub places_told : Result Written Stop → Result ℕ Stop
-places_told (Ok w) = Ok w.places
-places_told (Err s) = Err s
 
 -- the edges that were learned
 abbrev pub edges_in : Learned → List Edge
-edges_in l = take l.count l.edges
+edges_in l = l.edges.items
 
 -- whether a place is marked
 abbrev pub is_marked : Learned → ℕ → Bool

@@ -1,4 +1,4 @@
+pub mod Ceilings
 pub mod Learned
 pub mod Spreads
 pub mod Lowered
-pub mod Under

@@ -1,5 +1,5 @@
 // The kept rows: of each path the first of its offers that is not marked, which is the highest, since the highest are offered first.
-ghost use Rattle.std.specs.Prelude.{◌≡◌, ◌<◌, ◌≤◌, [], map, length, drop, if◌then◌else◌};
+ghost use Rattle.std.specs.Prelude.{◌≡◌, ◌<◌, [], map, length, if◌then◌else◌};
 ghost use Rattle.rules.specs.Paths.{path_order};
 ghost use Rattle.rules.specs.Tables.{keep as keeps_old, entered, entered_all};
 ghost use Rattle.rules.specs.Rows.{path_of};
@@ -20,10 +20,7 @@ fn keep_row(rows: &mut Requirements, row: Row)
     requires { length (requirement_names rows.old) < 256 }
     ensures after { requirement_names rows.new ≡ entered path_of path_order keeps_old (row_names row) (requirement_names rows.old) }
 {
-    match rows.add(row) {
-        Ok(()) => {}
-        Err(_) => {}
-    }
+    let _ = rows.add(row);
 }
 
 // Keeps the row of a place, unless the place is marked.
@@ -37,14 +34,14 @@ fn keep_place(rows: &mut Requirements, learned: &Learned, at: usize, row: Row)
     keep_row(rows, row);
 }
 
-// Keeps rows of a sheet whose places behind the main row are the offers.
-pub(crate) fn keep_rows(learned: &Learned, sheet: &[Place]) -> Requirements
-    requires { length sheet.now ≤ 256 }
-    ensures value { requirement_names result ≡ entered_all path_of path_order keeps_old [] (spared (mark_at learned.now) 1 (module_versions (map place_of (drop 1 sheet.now)))) }
+// Keeps rows of the offers, which stand on the sheet behind the main row.
+pub(crate) fn keep_rows(learned: &Learned, offers: &[Place]) -> Requirements
+    requires { length offers.now < 256 }
+    ensures value { requirement_names result ≡ entered_all path_of path_order keeps_old [] (spared (mark_at learned.now) 1 (module_versions (map place_of offers.now))) }
 {
     let mut rows = Requirements::new();
-    for i in 1..sheet.len() {
-        keep_place(&mut rows, learned, i, sheet[i].row);
+    for (i, place) in offers.iter().enumerate() {
+        keep_place(&mut rows, learned, i + 1, place.row);
     }
     rows
 }

@@ -1,11 +1,13 @@
 // What was learned of the places of a sheet: which are marked, and the edges from a place to those of the rows that it requires. A sheet has at
 // most 256 places, and a place at most 64 edges.
-ghost use Rattle.std.specs.Prelude.{◌≡◌, ◌≤◌, length};
+ghost use Rattle.std.specs.Prelude.{◌≡◌, length};
+
+use arrayvec::ArrayVec;
 
 mod spread;
 pub mod uses;
 
-#[derive(Clone, Copy, PartialEq, Eq, Debug)]
+#[derive(Clone, Copy, PartialEq, Eq, Debug, Default)]
 pub struct Edge {
     pub from: usize,
     pub to: usize,
@@ -14,8 +16,6 @@ pub struct Edge {
 #[derive(Drop)]
 pub struct Learned {
     marked: [bool; 256],
-    edges: [Edge; 16384],
-    count: usize,
+    edges: ArrayVec<Edge, 16384>,
     ghost wide: { length marked ≡ 256 },
-    ghost fits: { (length edges ≡ 16384) × (count ≤ 16384) },
 }

@@ -10,6 +10,5 @@ mod learned;
 pub mod lower;
 pub mod lowered;
 mod offers;
-mod sheet;
 mod under;
 mod walk;

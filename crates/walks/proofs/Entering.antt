@@ -1,9 +1,8 @@
--- Rows entered into a table that stands in the first places of a slice. Assumes nothing.
+-- Rows entered into a table. Assumes nothing.
 use Rattle.std.proofs.Common.{◌≡◌, ℕ, ◌+◌, ◌<◌, ◌≤◌, Bool, true, false, cond, not, List, [], ◌∷◌, ◌++◌, map, length, get_or, take, drop, set, Ok, Err, Result, Ordering, Less, Equal, Greater, sym, refl, ap, ◌∙◌, arith, take-append-drop, MatchResult}
-use lib.Seq.{take-set-lt}
-use Rattle.std.specs.Ordering.{is_lt}
+use Rattle.std.specs.Ordering.{is_lt, is_ge}
 use Rattle.std.specs.List.{insert}
-use Rattle.std.proofs.lemmas.List.{append-nil, get_or-take, get_or_default, set-get_or, length-map, length-take-le, map_more, map-append, take_all}
+use Rattle.std.proofs.lemmas.List.{append-nil, get_or_default, set-get_or, map_more, map-append, take_all}
 use Rattle.std.proofs.lemmas.List.Elements.{filter-append}
 use Rattle.std.proofs.lemmas.Result.{MatchResult-at_ok, MatchResult-at_err}
 use Rattle.rules.specs.Orders.{Bytes}
@@ -50,35 +49,36 @@ higher_names a b = go (is_lt (version_order (plain_version_bytes a.version) (pla
     go true = refl
     go false = refl
 
-module _ (rows : List Row) (count : ℕ) (x : Row) (i : ℕ) where
-  abbrev front : List Row
-  front = take count rows
+-- an order is at least, or less
+less_unless : (o : Ordering) (b : Bool) → b ≡ is_ge o → is_lt o ≡ not b
+less_unless Less b e = ap not (sym e)
+less_unless Equal b e = ap not (sym e)
+less_unless Greater b e = ap not (sym e)
 
-  named : map row_names (entered row_path plain_path_order higher_row x front) ≡ with_row (row_names x) (map row_names front)
-  named = map_entered row_path plain_path_order path_of path_order row_names (λ a b. refl) higher_row higher higher_names x front
+module _ (rows : List Row) (x : Row) (i : ℕ) where
+  named : map row_names (entered row_path plain_path_order higher_row x rows) ≡ with_row (row_names x) (map row_names rows)
+  named = map_entered row_path plain_path_order path_of path_order row_names (λ a b. refl) higher_row higher higher_names x rows
 
-  module _ (there : Ok i ≡ sought row_path plain_path_order x.path front) (in_front : i < count) (within : count ≤ length rows) (d : Row) where
-    met : with_row (row_names x) (map row_names front) ≡ map row_names (set front i (higher_row x (get_or rows i d)))
+  module _ (there : Ok i ≡ sought row_path plain_path_order x.path rows) (y : Row) (within : i < length rows) (read : y ≡ get_or rows i y) where
+    met : with_row (row_names x) (map row_names rows) ≡ map row_names (set rows i (higher_row x y))
     met =
         sym named
-        ∙ ap (map row_names) (MatchResult-at_ok (λ j. entered row_path plain_path_order higher_row x front ≡ set front j (higher_row x (get_or front j x))) (λ j. entered row_path plain_path_order higher_row x front ≡ insert front j x) i (sym there) (put row_path plain_path_order higher_row x front))
-        ∙ ap (λ y. map row_names (set front i (higher_row x y))) (get_or-take count rows i x in_front ∙ get_or_default rows i x d (omega arith))
+        ∙ ap (map row_names) (MatchResult-at_ok (λ j. entered row_path plain_path_order higher_row x rows ≡ set rows j (higher_row x (get_or rows j x))) (λ j. entered row_path plain_path_order higher_row x rows ≡ insert rows j x) i (sym there) (put row_path plain_path_order higher_row x rows))
+        ∙ ap (λ z. map row_names (set rows i (higher_row x z))) (get_or_default rows i x y within ∙ sym read)
 
     -- the row that is there is higher
-    pub enter_lower : true ≡ is_lt (version_order (row_names x).version (row_names (get_or rows i d)).version) → map row_names front ≡ with_row (row_names x) (map row_names front)
-    enter_lower t = sym (met ∙ ap (λ b. map row_names (set front i (cond b (get_or rows i d) x))) (sym t) ∙ ap (λ y. map row_names (set front i y)) (sym (get_or-take count rows i d in_front)) ∙ ap (map row_names) (set-get_or front i d))
+    pub enter_lower : false ≡ is_ge (version_order (row_names x).version (row_names y).version) → map row_names rows ≡ with_row (row_names x) (map row_names rows)
+    enter_lower t =
+        sym (met ∙ ap (λ b. map row_names (set rows i (cond b y x))) (less_unless (version_order (row_names x).version (row_names y).version) false t)
+        ∙ ap (λ z. map row_names (set rows i z)) read ∙ ap (map row_names) (set-get_or rows i y))
 
     -- it is not
-    pub enter_higher : false ≡ is_lt (version_order (row_names x).version (row_names (get_or rows i d)).version) → map row_names (take count (set rows i x)) ≡ with_row (row_names x) (map row_names front)
-    enter_higher t = ap (map row_names) (take-set-lt count rows i x in_front) ∙ sym (met ∙ ap (λ b. map row_names (set front i (cond b (get_or rows i d) x))) (sym t))
+    pub enter_higher : true ≡ is_ge (version_order (row_names x).version (row_names y).version) → map row_names (set rows i x) ≡ with_row (row_names x) (map row_names rows)
+    enter_higher t = sym (met ∙ ap (λ b. map row_names (set rows i (cond b y x))) (less_unless (version_order (row_names x).version (row_names y).version) true t))
 
   -- there is none
-  pub enter_new : Err i ≡ sought row_path plain_path_order x.path front → map row_names (insert front i x) ≡ with_row (row_names x) (map row_names front)
-  enter_new none = ap (map row_names) (sym (MatchResult-at_err (λ j. entered row_path plain_path_order higher_row x front ≡ set front j (higher_row x (get_or front j x))) (λ j. entered row_path plain_path_order higher_row x front ≡ insert front j x) i (sym none) (put row_path plain_path_order higher_row x front))) ∙ named
-
--- how many stand in front
-pub counted : (rows : List Row) (n : ℕ) (zs : List ModuleVersion) → n ≤ length rows → map row_names (take n rows) ≡ zs → n ≡ length zs
-counted rows n zs h e = sym (length-take-le n rows h) ∙ sym (length-map (take n rows) row_names) ∙ ap length e
+  pub enter_new : Err i ≡ sought row_path plain_path_order x.path rows → map row_names (insert rows i x) ≡ with_row (row_names x) (map row_names rows)
+  enter_new none = ap (map row_names) (sym (MatchResult-at_err (λ j. entered row_path plain_path_order higher_row x rows ≡ set rows j (higher_row x (get_or rows j x))) (λ j. entered row_path plain_path_order higher_row x rows ≡ insert rows j x) i (sym none) (put row_path plain_path_order higher_row x rows))) ∙ named
 
 -- one row more of a sheet
 module _ (main : Bytes) where

@@ -1,23 +1,14 @@
 -- What the code says of a walk that goes on if there is room, and back. Assumes nothing.
-use Rattle.std.proofs.Common.{◌≡◌, ℕ, ◌<◌, ◌≤◌, Bool, true, false, cond, ltb, List, map, length, take, Some, Ok, Err, Result, sym, refl, ap, ◌∙◌, subst, arith}
-use Rattle.std.proofs.lemmas.List.{take_all, length-take-le, length-map}
+use Rattle.std.proofs.Common.{◌≡◌, ℕ, ◌<◌, ◌≤◌, Bool, true, false, cond, ltb, List, length, take, Some, None, Ok, Err, Result, sym, refl, ap, ◌∙◌, subst, arith}
+use Rattle.std.proofs.lemmas.List.{take_all}
 use Rattle.std.proofs.lemmas.Bool.{lt-ltb, le-ltb, ltb-true, ltb-false}
 use Rattle.rules.specs.Causes.{too_many_module_versions}
 use Rattle.rules.specs.Walks as R
-use Rattle.rules.specs.Walks.{Walked, ended, if_room, done, no_room}
+use Rattle.rules.specs.Walks.{End, stopped, Walked, ended, if_room, done, no_room}
 use Rattle.rules.specs.Calls.{refusal_for}
 use Rattle.causes.specs.Told.{refusal_of}
-use Rattle.walks.specs.declared.place.Place.{Place}
-use Rattle.walks.specs.declared.stop.Stop.{Stop}
-use Rattle.walks.specs.Places.{place_of}
-use Rattle.walks.specs.Stops.{Tells}
-
--- as many places as are taken
-pub front_long : (ps : List Place) (n : ℕ) → n ≤ length ps → length (map place_of (take n ps)) ≡ n
-front_long ps n h = length-map (take n ps) place_of ∙ length-take-le n ps h
-
-pub tells_by : (w v : Walked) (r : Result ℕ Stop) (after : List Place) → w ≡ v → Tells v r after → Tells w r after
-tells_by w v r after e t = subst (λ u. Tells u r after) (sym e) t
+use Rattle.causes.specs.declared.refusal.Refusal.{Refusal}
+use Rattle.walks.specs.Sheets.{EndsAs, refused_by}
 
 -- a sheet with what comes next
 abbrev Next : Type 0
@@ -29,44 +20,50 @@ with_room next t h = ap (λ b. cond b (ended no_room t) (next t)) (le-ltb 256 (l
 pub without_room : (next : Next) (t : List R.Place) → 256 < length t → if_room next t ≡ ended no_room t
 without_room next t h = ap (λ b. cond b (ended no_room t) (next t)) (lt-ltb 256 (length t) h)
 
-module _ (t : List R.Place) (after : List Place) where
-  -- every place is written
-  pub tells_done : (n : ℕ) → length t ≤ 256 → n ≤ length after → map place_of (take n after) ≡ t → Tells (ended done t) (Ok n) after
-  tells_done n h fits e = record {
-    refused = refl;
-    places = sym (front_long after n fits) ∙ ap length (e ∙ sym (take_all 256 t h));
-    items = e ∙ sym (take_all 256 t h);
-  }
+-- the sheet that is left, for whatever answer
+module _ {A : Type 0} where
+  pub ends_by : (w v : Walked) (r : Result A Refusal) (left : List R.Place) → w ≡ v → EndsAs {A = A} v r left → EndsAs {A = A} w r left
+  ends_by w v r left e t = subst (λ u. EndsAs {A = A} u r left) (sym e) t
 
-  pub tells_room : (n : ℕ) → length t ≤ 256 → n ≤ length after → map place_of (take n after) ≡ t → Tells (if_room (ended done) t) (Ok n) after
-  tells_room n h fits e = tells_by (if_room (ended done) t) (ended done t) (Ok n) after (with_room (ended done) t h) (tells_done n h fits e)
+  module _ (t left : List R.Place) where
+    -- every place is written
+    pub ends_done : (x : A) → length t ≤ 256 → left ≡ t → EndsAs {A = A} (ended done t) (Ok x) left
+    ends_done x h e = record { refused = refl; items = e ∙ sym (take_all 256 t h) }
 
-  -- a 257th is needed
-  pub tells_full : (s : Stop) → 256 < length t → s.places ≡ 256 → refusal_of s.refusal ≡ refusal_for too_many_module_versions → map place_of (take 256 after) ≡ take 256 t
-      → Tells (if_room (ended done) t) (Err s) after
-  tells_full s h p q e = tells_by (if_room (ended done) t) (ended no_room t) (Err s) after (without_room (ended done) t h) (record {
-    refused = ap Some q;
-    places = p ∙ sym (length-take-le 256 t (omega arith));
-    items = ap (λ n. map place_of (take n after)) p ∙ e;
-  })
+    pub ends_room : (x : A) → length t ≤ 256 → left ≡ t → EndsAs {A = A} (if_room (ended done) t) (Ok x) left
+    ends_room x h e = ends_by (if_room (ended done) t) (ended done t) (Ok x) left (with_room (ended done) t h) (ends_done x h e)
 
-  room_cases : (r : Result ℕ Stop) → Tells (if_room (ended done) t) r after → (b : Bool) → ltb 256 (length t) ≡ b → Tells (cond b (ended no_room t) (ended done t)) r after
-  room_cases r h b e = subst (λ c. Tells (cond c (ended no_room t) (ended done t)) r after) e h
+    -- a 257th is needed
+    pub ends_full : (s : Refusal) → 256 < length t → refusal_of s ≡ refusal_for too_many_module_versions → left ≡ take 256 t → EndsAs {A = A} (if_room (ended done) t) (Err s) left
+    ends_full s h q e = ends_by (if_room (ended done) t) (ended no_room t) (Err s) left (without_room (ended done) t h) (record { refused = ap Some q; items = e })
 
-  pub ok_told : (n : ℕ) → Tells (if_room (ended done) t) (Ok n) after → (length t ≤ 256) × (n ≡ length t) × (map place_of (take n after) ≡ t)
-  ok_told n h = go (ltb 256 (length t)) refl (room_cases (Ok n) h (ltb 256 (length t)) refl)
-    where
-      go : (b : Bool) → ltb 256 (length t) ≡ b → Tells (cond b (ended no_room t) (ended done t)) (Ok n) after → (length t ≤ 256) × (n ≡ length t) × (map place_of (take n after) ≡ t)
-      go true e s = let q = s.refused in let z : ◌≡◌ {A = ℕ} 0 1 = cc in absurd (omega arith)
-      go false e s = let l = ltb-false 256 (length t) e in (l, s.places ∙ ap length (take_all 256 t l), s.items ∙ take_all 256 t l)
+    end_cases : (r : Result A Refusal) → EndsAs {A = A} (if_room (ended done) t) r left → (b : Bool) → ltb 256 (length t) ≡ b → EndsAs {A = A} (cond b (ended no_room t) (ended done t)) r left
+    end_cases r h b e = subst (λ c. EndsAs {A = A} (cond c (ended no_room t) (ended done t)) r left) e h
 
-  pub err_told : (s : Stop) → Tells (if_room (ended done) t) (Err s) after → (256 < length t) × Tells (ended no_room t) (Err s) after
-  err_told s h = go (ltb 256 (length t)) refl (room_cases (Err s) h (ltb 256 (length t)) refl)
-    where
-      go : (b : Bool) → ltb 256 (length t) ≡ b → Tells (cond b (ended no_room t) (ended done t)) (Err s) after → (256 < length t) × Tells (ended no_room t) (Err s) after
-      go true e k = (ltb-true 256 (length t) e, k)
-      go false e k = let q = k.refused in let z : ◌≡◌ {A = ℕ} 0 1 = cc in absurd (omega arith)
+    pub ok_ended : (x : A) → EndsAs {A = A} (if_room (ended done) t) (Ok x) left → (length t ≤ 256) × (left ≡ t)
+    ok_ended x h = go (ltb 256 (length t)) refl (end_cases (Ok x) h (ltb 256 (length t)) refl)
+      where
+        go : (b : Bool) → ltb 256 (length t) ≡ b → EndsAs {A = A} (cond b (ended no_room t) (ended done t)) (Ok x) left → (length t ≤ 256) × (left ≡ t)
+        go true e s = let q = s.refused in let z : ◌≡◌ {A = ℕ} 0 1 = cc in absurd (omega arith)
+        go false e s = let l = ltb-false 256 (length t) e in (l, s.items ∙ take_all 256 t l)
 
--- the first 256 places are all that is told of a sheet that has no room
-pub tells_over : (t u : List R.Place) (r : Result ℕ Stop) (after : List Place) → take 256 u ≡ take 256 t → Tells (ended no_room t) r after → Tells (ended no_room u) r after
-tells_over t u r after e s = record { refused = s.refused; places = s.places ∙ ap length (sym e); items = s.items ∙ sym e }
+    pub err_ended : (s : Refusal) → EndsAs {A = A} (if_room (ended done) t) (Err s) left → (256 < length t) × EndsAs {A = A} (ended no_room t) (Err s) left
+    err_ended s h = go (ltb 256 (length t)) refl (end_cases (Err s) h (ltb 256 (length t)) refl)
+      where
+        go : (b : Bool) → ltb 256 (length t) ≡ b → EndsAs {A = A} (cond b (ended no_room t) (ended done t)) (Err s) left → (256 < length t) × EndsAs {A = A} (ended no_room t) (Err s) left
+        go true e k = (ltb-true 256 (length t) e, k)
+        go false e k = let q = k.refused in let z : ◌≡◌ {A = ℕ} 0 1 = cc in absurd (omega arith)
+
+  -- the first 256 places are all that is left of a sheet that has no room
+  pub ends_over : (t u : List R.Place) (r : Result A Refusal) (left : List R.Place) → take 256 u ≡ take 256 t → EndsAs {A = A} (ended no_room t) r left → EndsAs {A = A} (ended no_room u) r left
+  ends_over t u r left e s = record { refused = s.refused; items = s.items ∙ sym e }
+
+-- a refusal is passed on, whatever would have been answered
+pub ends_so : {A B : Type 0} (w : Walked) (s : Refusal) (left : List R.Place) → EndsAs {A = A} w (Err s) left → EndsAs {A = B} w (Err s) left
+ends_so w s left t = record { refused = t.refused; items = t.items }
+
+-- what is not refused is done
+pub ended_done : (e : End) → None ≡ refused_by e → e ≡ done
+ended_done done q = refl
+ended_done (stopped k f) q = let z : ◌≡◌ {A = ℕ} 0 1 = cc in absurd (omega arith)
+ended_done no_room q = let z : ◌≡◌ {A = ℕ} 0 1 = cc in absurd (omega arith)

@@ -1,9 +1,11 @@
 -- The turns of a walk, as the code takes them. Assumes nothing.
-use Rattle.std.proofs.Common.{◌≡◌, ℕ, suc, ◌+◌, ◌-◌, ◌<◌, ◌≤◌, true, not, List, map, length, get_or, take, Some, Ok, Err, sym, refl, ap, ◌∙◌, subst, ⊎_elim, arith}
+use Rattle.std.proofs.Common.{◌≡◌, ℕ, zero, suc, ◌+◌, ◌-◌, ◌<◌, ◌≤◌, true, not, List, [], ◌∷◌, length, get_or, Some, Ok, Err, Result, sym, refl, ap, ◌∙◌, subst, ⊎_elim, arith, MatchResult}
 use Rattle.std.specs.List.{slice_get, AllByRecursion}
-use Rattle.std.proofs.lemmas.List.{get_or-map, get_or-take, length-take-le, take_all}
+use Rattle.std.proofs.lemmas.List.{take_all}
 use Rattle.std.proofs.lemmas.Option.{slice_get-get_or}
-use Rattle.std.proofs.ByRecursion.{all_kept_by}
+use Rattle.std.specs.Result.{IsErrAnd}
+use Rattle.std.proofs.lemmas.Result.{err_from_is_err_and}
+use Rattle.rules.proofs.Each.{each_filtered}
 use Rattle.rules.specs.Names.{ModuleVersion, is_module_version, same_path}
 use Rattle.rules.specs.Causes.{Fault}
 use Rattle.rules.specs.Sources.{Answer, found, fault, Lawful, narrowed}
@@ -11,17 +13,25 @@ use Rattle.rules.specs.Slices.{blank_place}
 use Rattle.rules.specs.Projects.{View, off_main, remaining}
 use Rattle.rules.specs.Calls.{refusal_at}
 use Rattle.rules.specs.Walks as R
-use Rattle.rules.specs.Walks.{written, ended, done, stopped, no_room, if_room, answered, questioned, walk}
+use Rattle.rules.specs.Walks.{written, ended, done, stopped, no_room, if_room, answered, questioned, walk, Walked, module_versions}
 use Rattle.rules.proofs.Walks.{placed, written_keeps, nth_pushed}
 use Rattle.rules.proofs.Members.{all_member}
 use Rattle.rules.proofs.Turns.{written_longer, walk_done, walk_stops, walk_fills, walk_goes}
 use Rattle.causes.specs.Told.{refusal_of}
-use Rattle.walks.specs.declared.place.Place.{Place}
-use Rattle.walks.specs.declared.stop.Stop.{Stop}
-use Rattle.walks.specs.Places.{place_of}
-use Rattle.walks.specs.Stops.{Tells}
-use Rattle.walks.specs.Views.{Formed, asked_at}
-use Rattle.walks.proofs.Telling.{front_long, ok_told, err_told, tells_by, tells_done}
+use Rattle.causes.specs.declared.refusal.Refusal.{Refusal}
+use Rattle.walks.specs.Sheets.{EndsAs}
+use Rattle.walks.specs.Views.{Formed}
+use Rattle.walks.proofs.Telling.{ok_ended, err_ended, ends_by, ends_done}
+
+-- what was answered, by the same answer with another error
+module _ {T E D : Type 0} (Post : E → D → Type 0) where
+  pub was_ok : (r : Result T E) (q : Result T D) → MatchResult r (λ x. q ≡ Ok x) (λ e. IsErrAnd q (Post e)) → (x : T) → q ≡ Ok x → r ≡ Ok x
+  was_ok (Ok y) q m x e = let same : y ≡ x = cc in ap Ok same
+  was_ok (Err y) q m x e = let (d, is, post) = err_from_is_err_and q m in let z : ◌≡◌ {A = ℕ} 0 1 = cc in absurd (omega arith)
+
+  pub was_err : (r : Result T E) (q : Result T D) → MatchResult r (λ x. q ≡ Ok x) (λ e. IsErrAnd q (Post e)) → (d : D) → q ≡ Err d → (y : E) × (r ≡ Err y) × Post y d
+  was_err (Ok y) q m d e = let z : ◌≡◌ {A = ℕ} 0 1 = cc in absurd (omega arith)
+  was_err (Err y) q m d e = let (k, is, post) = err_from_is_err_and q m in let same : k ≡ d = cc in (y, refl, subst (Post y) same post)
 
 -- well formed rows keep a sheet well formed
 pub formed_written : (from : ℕ) (xs : List ModuleVersion) (sheet : List R.Place) → AllByRecursion (λ x. is_module_version x ≡ true) xs → Formed sheet → Formed (written from xs sheet)
@@ -30,13 +40,22 @@ formed_written from xs sheet all f =
     (λ s x h new g i r l e. ⊎_elim (λ k. g i r l k) (λ k. subst (λ (p : R.Place). is_module_version p.row ≡ true) k.1 (all_member (λ y. is_module_version y ≡ true) xs all x h)) (nth_pushed s (placed x from) i r e))
     sheet f
 
--- the place that the code reads
-pub read_at : (ps : List Place) (n i : ℕ) (d : Place) → i < n → n ≤ length ps → get_or (map place_of (take n ps)) i blank_place ≡ place_of (get_or ps i d)
-read_at ps n i d l h = get_or-map place_of (take n ps) i d blank_place (omega (arith, length-take-le n ps h)) ∙ ap place_of (get_or-take n ps i d l)
-
 -- what is answered is well formed
 abbrev pub AsksFormed : (ModuleVersion → Answer (List ModuleVersion)) → Type 0
 AsksFormed ask = (x : ModuleVersion) (ys : List ModuleVersion) → ask x ≡ found ys → AllByRecursion (λ y. is_module_version y ≡ true) ys
+
+-- the row that is told stands at a place
+pub place_of_row : (sheet : List R.Place) (i : ℕ) (x : ModuleVersion) → slice_get (module_versions sheet) i ≡ Some x → (r : R.Place) × (slice_get sheet i ≡ Some r) × (r.row ≡ x)
+place_of_row [] i x e = let z : ◌≡◌ {A = ℕ} 0 1 = cc in absurd (omega arith)
+place_of_row (r ∷ rs) zero x e = (r, refl, cc)
+place_of_row (r ∷ rs) (suc i) x e = place_of_row rs i x e
+
+-- a place is questioned by the row that is told
+pub asked_of : (ask : ModuleVersion → Answer (List ModuleVersion)) (next : List R.Place → Walked) (i : ℕ) (sheet : List R.Place) (x : ModuleVersion) → slice_get (module_versions sheet) i ≡ Some x
+    → questioned ask next i sheet (slice_get sheet i) ≡ answered next i sheet (ask x)
+asked_of ask next i sheet x e =
+    let (r, there, row) = place_of_row sheet i x e in
+    ap (questioned ask next i sheet) there ∙ ap (λ y. answered next i sheet (ask y)) row
 
 -- whatever is asked
 module _ (ask : ModuleVersion → Answer (List ModuleVersion)) (i : ℕ) (sheet : List R.Place) (in_sheet : i < length sheet) where
@@ -46,57 +65,45 @@ module _ (ask : ModuleVersion → Answer (List ModuleVersion)) (i : ℕ) (sheet 
   pub reads : slice_get sheet i ≡ Some there
   reads = slice_get-get_or sheet i blank_place in_sheet
 
-  pub asked : questioned ask (ended done) i sheet (slice_get sheet i) ≡ answered (ended done) i sheet (ask there.row)
+  asked : questioned ask (ended done) i sheet (slice_get sheet i) ≡ answered (ended done) i sheet (ask there.row)
   asked = ap (questioned ask (ended done) i sheet) reads
 
-  -- what holds after a turn that goes on
-  abbrev GoesOn : ℕ → List R.Place → Type 0
-  GoesOn n next = (n ≤ 256) × (length sheet ≤ n) × Formed next × (walk ask (256 - (i + 1)) (i + 1) next ≡ walk ask (256 - i) i sheet)
-
-  module _ (room : i < 256) (after : List Place) where
+  module _ (room : i < 256) where
     one_less : 256 - i ≡ suc (255 - i)
     one_less = omega arith
 
-    pub goes_on : AsksFormed ask → Formed sheet → (n : ℕ) → Tells (questioned ask (ended done) i sheet (slice_get sheet i)) (Ok n) after → GoesOn n (map place_of (take n after))
-    goes_on formed f n t = go (ask there.row) refl (subst (λ u. Tells u (Ok n) after) asked t)
+    -- what holds after a turn that goes on
+    abbrev GoesFurther : List R.Place → Type 0
+    GoesFurther left = (length sheet ≤ length left) × Formed left × (walk ask (256 - (i + 1)) (i + 1) left ≡ walk ask (256 - i) i sheet)
+
+    pub goes_further : (left : List R.Place) → AsksFormed ask → Formed sheet → EndsAs {A = Unit {0}} (questioned ask (ended done) i sheet (slice_get sheet i)) (Ok tt) left → GoesFurther left
+    goes_further left formed f t = go (ask there.row) refl (subst (λ u. EndsAs {A = Unit {0}} u (Ok tt) left) asked t)
       where
-        go : (a : Answer (List ModuleVersion)) → ask there.row ≡ a → Tells (answered (ended done) i sheet a) (Ok n) after → GoesOn n (map place_of (take n after))
+        go : (a : Answer (List ModuleVersion)) → ask there.row ≡ a → EndsAs {A = Unit {0}} (answered (ended done) i sheet a) (Ok tt) left → GoesFurther left
         go (fault g) e k = let q = k.refused in let z : ◌≡◌ {A = ℕ} 0 1 = cc in absurd (omega arith)
         go (found ys) e k =
-            let (l, c, q) = ok_told (written i ys sheet) after n k in
-            let left : 256 - (i + 1) ≡ 255 - i = omega arith in
+            let (l, q) = ok_ended (written i ys sheet) left tt k in
+            let less : 256 - (i + 1) ≡ 255 - i = omega arith in
             let next : i + 1 ≡ suc i = omega arith in (
-              omega (arith, l, c),
-              omega (arith, c, written_longer i ys sheet),
+              omega (arith, ap length q, written_longer i ys sheet),
               subst Formed (sym q) (formed_written i ys sheet (formed there.row ys e) f),
               ap (walk ask (256 - (i + 1)) (i + 1)) q
-                  ∙ ap (λ m. walk ask m (i + 1) (written i ys sheet)) left
+                  ∙ ap (λ m. walk ask m (i + 1) (written i ys sheet)) less
                   ∙ ap (λ m. walk ask (255 - i) m (written i ys sheet)) next
                   ∙ sym (walk_goes ask (255 - i) i sheet there reads ys e l)
                   ∙ ap (λ m. walk ask m i sheet) (sym one_less),
             )
 
-    pub stops_here : (s : Stop) → Tells (questioned ask (ended done) i sheet (slice_get sheet i)) (Err s) after → Tells (walk ask (256 - i) i sheet) (Err s) after
-    stops_here s t = tells_by _ (walk ask (suc (255 - i)) i sheet) (Err s) after (ap (λ m. walk ask m i sheet) one_less) (go (ask there.row) refl (subst (λ u. Tells u (Err s) after) asked t))
+    pub stops_there : (left : List R.Place) (s : Refusal) → EndsAs {A = Unit {0}} (questioned ask (ended done) i sheet (slice_get sheet i)) (Err s) left → EndsAs {A = Unit {0}} (walk ask (256 - i) i sheet) (Err s) left
+    stops_there left s t = ends_by _ (walk ask (suc (255 - i)) i sheet) (Err s) left (ap (λ m. walk ask m i sheet) one_less) (go (ask there.row) refl (subst (λ u. EndsAs {A = Unit {0}} u (Err s) left) asked t))
       where
-        go : (a : Answer (List ModuleVersion)) → ask there.row ≡ a → Tells (answered (ended done) i sheet a) (Err s) after → Tells (walk ask (suc (255 - i)) i sheet) (Err s) after
-        go (fault g) e k = tells_by _ (ended (stopped i g) sheet) (Err s) after (walk_stops ask (255 - i) i sheet there reads g e) k
+        go : (a : Answer (List ModuleVersion)) → ask there.row ≡ a → EndsAs {A = Unit {0}} (answered (ended done) i sheet a) (Err s) left → EndsAs {A = Unit {0}} (walk ask (suc (255 - i)) i sheet) (Err s) left
+        go (fault g) e k = ends_by _ (ended (stopped i g) sheet) (Err s) left (walk_stops ask (255 - i) i sheet there reads g e) k
         go (found ys) e k =
-            let (l, q) = err_told (written i ys sheet) after s k in
-            tells_by _ (ended no_room (written i ys sheet)) (Err s) after (walk_fills ask (255 - i) i sheet there reads ys e l) q
+            let (l, q) = err_ended (written i ys sheet) left s k in
+            ends_by _ (ended no_room (written i ys sheet)) (Err s) left (walk_fills ask (255 - i) i sheet there reads ys e l) q
 
 module _ (w : View) where
-  -- the code's question, by what the source answered
-  module _ (i : ℕ) (sheet : List R.Place) (in_sheet : i < length sheet) where
-    pub asked_found : (x : ModuleVersion) → x ≡ (get_or sheet i blank_place).row → (ys : List ModuleVersion) → w.layer.requirements x ≡ found ys
-        → asked_at w i sheet ≡ if_room (ended done) (written i (off_main w.main ys) sheet)
-    asked_found x e ys a =
-        asked (remaining w) i sheet in_sheet ∙ ap (λ y. answered (ended done) i sheet (remaining w y)) (sym e) ∙ ap (λ b. answered (ended done) i sheet (narrowed (off_main w.main) b)) a
-
-    pub asked_fault : (x : ModuleVersion) → x ≡ (get_or sheet i blank_place).row → (f : Fault) → w.layer.requirements x ≡ fault f → asked_at w i sheet ≡ ended (stopped i f) sheet
-    asked_fault x e f a =
-        asked (remaining w) i sheet in_sheet ∙ ap (λ y. answered (ended done) i sheet (remaining w y)) (sym e) ∙ ap (λ b. answered (ended done) i sheet (narrowed (off_main w.main) b)) a
-
   -- what remains required is well formed
   pub required_formed : Lawful w.layer → AsksFormed (remaining w)
   required_formed law x ys e = go (w.layer.requirements x) refl e
@@ -105,24 +112,12 @@ module _ (w : View) where
       go (fault f) p q = let z : ◌≡◌ {A = ℕ} 0 1 = cc in absurd (omega arith)
       go (found zs) p q =
           let k : off_main w.main zs ≡ ys = cc in
-          subst (AllByRecursion (λ y. is_module_version y ≡ true)) k (all_kept_by (λ y. not (same_path y w.main)) (λ y. is_module_version y ≡ true) zs (law.rows_formed x zs p))
+          subst (AllByRecursion (λ y. is_module_version y ≡ true)) k (each_filtered (λ y. is_module_version y ≡ true) (λ y. not (same_path y w.main)) zs (law.rows_formed x zs p))
 
 -- every place is questioned
-pub goes_out : (ask : ModuleVersion → Answer (List ModuleVersion)) (i n : ℕ) (after : List Place) → n ≤ i → n ≤ 256 → n ≤ length after
-    → Tells (walk ask (256 - i) i (map place_of (take n after))) (Ok n) after
-goes_out ask i n after h l fits =
-    let long : length (map place_of (take n after)) ≡ n = front_long after n fits in
-    tells_by _ (ended done (map place_of (take n after))) (Ok n) after (walk_done ask (256 - i) i (map place_of (take n after)) (omega arith))
-    (tells_done (map place_of (take n after)) after n (omega arith) fits refl)
+pub walks_out : (ask : ModuleVersion → Answer (List ModuleVersion)) (i : ℕ) (sheet : List R.Place) → length sheet ≤ i → length sheet ≤ 256 → EndsAs {A = Unit {0}} (walk ask (256 - i) i sheet) (Ok tt) sheet
+walks_out ask i sheet h l = ends_by _ (ended done sheet) (Ok tt) sheet (walk_done ask (256 - i) i sheet h) (ends_done sheet sheet tt l refl)
 
 -- a fault of a place
-pub tells_fault : (i n : ℕ) (f : Fault) (s : Stop) (after : List Place) → n ≤ 256 → n ≤ length after → s.places ≡ n → refusal_of s.refusal ≡ refusal_at i f
-    → Tells (ended (stopped i f) (map place_of (take n after))) (Err s) after
-tells_fault i n f s after l fits p q =
-    let long : length (map place_of (take n after)) ≡ n = front_long after n fits in
-    let all : take 256 (map place_of (take n after)) ≡ map place_of (take n after) = take_all 256 (map place_of (take n after)) (omega arith) in
-    record {
-      refused = ap Some q;
-      places = p ∙ sym long ∙ ap length (sym all);
-      items = ap (λ k. map place_of (take k after)) p ∙ sym all;
-    }
+pub ends_fault : {A : Type 0} (i : ℕ) (f : Fault) (s : Refusal) (sheet : List R.Place) → length sheet ≤ 256 → refusal_of s ≡ refusal_at i f → EndsAs {A = A} (ended (stopped i f) sheet) (Err s) sheet
+ends_fault i f s sheet l q = record { refused = ap Some q; items = sym (take_all 256 sheet l) }

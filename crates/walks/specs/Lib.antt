@@ -1,4 +1,5 @@
 pub mod Places
-pub mod Stops
+pub mod Fillings
+pub mod Sheets
 pub mod Views
 pub mod Listed

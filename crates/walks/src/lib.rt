@@ -2,11 +2,12 @@
 // what each place requires. The list is made from the sheet: of each path the highest version.
 #![tactic(auto)]
 
+pub mod as_row;
 pub mod counts;
+pub mod filling;
 pub mod list;
 pub mod place;
 mod rows;
 pub mod sheet;
 pub mod start;
-pub mod stop;
 pub mod walk;

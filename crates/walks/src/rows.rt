@@ -1,101 +1,72 @@
-// The rows of the list: the main row, and then of each other path on the sheet the highest version, ascending by path. They stand in the first
-// places of a slice.
-ghost use Rattle.std.specs.Prelude.{◌≡◌, ◌+◌, ◌<◌, ◌≤◌, map, length, take};
-ghost use Rattle.std.specs.Ordering.{is_lt};
-ghost use Rattle.std.specs.List.{insert};
-ghost use Rattle.rules.specs.Versions.{version_order};
+// The rows of the list: the main row, and then of each other path on the sheet the highest version, ascending by path.
+ghost use Rattle.std.specs.Prelude.{◌≡◌, ◌<◌, ◌≤◌, [], map, length};
 ghost use Rattle.rules.specs.Rows.{with_row, table};
 ghost use Rattle.rules.specs.Lists.{list_of};
 ghost use Rattle.rules.specs.Projects.{off_main};
 ghost use Rattle.rules.specs.Walks.{module_versions};
 ghost use Rattle.names.specs.Paths.{path_bytes};
 ghost use Rattle.modules.specs.Rows.{row_names};
+ghost use Rattle.walks.specs.Fillings.{items_of};
 ghost use Rattle.walks.specs.Places.{place_of};
 ghost use Rattle.walks.specs.Views.{bare, entered_off};
 
+use crate::filling::Filling;
 use crate::place::Place;
 use crate::sheet::is_on;
 use crate::start::main_row;
 use modules::rows::Row;
 use names::path::Path;
-use ordered::order::Ordered;
 use ordered::slices::search;
-use std::cmp::Ordering;
 
-// Moves the rows from `at` on up by one place, and writes `row` at `at`.
-fn insert_at(rows: &mut [Row], count: usize, at: usize, row: Row)
-    requires { (at ≤ count) × (count < length rows.old) }
-    ensures after { take (count + 1) rows.new ≡ insert (take count rows.old) at row }
-{
-    for i in (at..count).rev() {
-        rows[i + 1] = rows[i];
-    }
-    rows[at] = row;
-}
-
-// Whether a row has a lower version than another.
-fn is_lower(row: &Row, other: &Row) -> bool
-    ensures value { result ≡ is_lt (version_order (row_names row.now).version (row_names other.now).version) }
-{
-    match row.version.compare(&other.version) {
-        Ordering::Less => true,
-        _ => false,
-    }
-}
-
-// Enters a row among the first `count`, where its path stands. Where the path is there already, the higher version stays.
-fn enter(rows: &mut [Row], count: usize, row: Row) -> usize
-    requires { count < length rows.old }
-    ensures value { result ≡ length (with_row (row_names row) (map row_names (take count rows.old))) }
-    ensures after { map row_names (take result rows.new) ≡ with_row (row_names row) (map row_names (take count rows.old)) }
-{
-    match search(&rows[0..count], &row.path) {
-        Ok(at) => {
-            if is_lower(&row, &rows[at]) {
-                return count;
+impl<'a> Filling<'a, Row> {
+    // Enters a row where its path stands. Where the path is there already, the higher version stays.
+    fn enter(&mut self, row: Row)
+        requires room { length (items_of self.old) < 256 }
+        ensures after { map row_names (items_of self.new) ≡ with_row (row_names row) (map row_names (items_of self.old)) }
+        ensures same_reference { self.new.items.ghost_name ≡ self.old.items.ghost_name }
+    {
+        match search(self.as_slice(), &row.path) {
+            Ok(at) => {
+                let there = self.as_slice()[at];
+                if row.version >= there.version {
+                    self.replace(at, row);
+                }
             }
-            rows[at] = row;
-            count
-        }
-        Err(at) => {
-            insert_at(rows, count, at, row);
-            count + 1
+            Err(at) => self.insert(at, row),
         }
     }
-}
 
-// Enters a row that is not on the main path.
-fn enter_off(rows: &mut [Row], count: usize, main: &Path, row: Row) -> usize
-    requires { count < length rows.old }
-    ensures value { result ≡ length (entered_off (path_bytes main.now) (row_names row) (map row_names (take count rows.old))) }
-    ensures after { map row_names (take result rows.new) ≡ entered_off (path_bytes main.now) (row_names row) (map row_names (take count rows.old)) }
-{
-    if is_on(&row, main) {
-        return count;
+    // Enters a row that is not on the main path.
+    fn enter_off(&mut self, main: &Path, row: Row)
+        requires room { length (items_of self.old) < 256 }
+        ensures after { map row_names (items_of self.new) ≡ entered_off (path_bytes main.now) (row_names row) (map row_names (items_of self.old)) }
+        ensures same_reference { self.new.items.ghost_name ≡ self.old.items.ghost_name }
+    {
+        if !is_on(&row, main) {
+            self.enter(row);
+        }
     }
-    enter(rows, count, row)
-}
 
-// Enters the rows of a sheet that are not on the main path.
-fn enter_all(rows: &mut [Row], main: &Path, sheet: &[Place]) -> usize
-    requires { length (table (off_main (path_bytes main.now) (module_versions (map place_of sheet.now)))) < length rows.old }
-    ensures value { result ≡ length (table (off_main (path_bytes main.now) (module_versions (map place_of sheet.now)))) }
-    ensures after { map row_names (take result rows.new) ≡ table (off_main (path_bytes main.now) (module_versions (map place_of sheet.now))) }
-{
-    let mut count = 0;
-    for place in sheet {
-        count = enter_off(rows, count, main, place.row);
+    // Enters the rows of a sheet that are not on the main path.
+    fn enter_all(&mut self, main: &Path, sheet: &[Place])
+        requires room { length (table (off_main (path_bytes main.now) (module_versions (map place_of sheet.now)))) < 256 }
+        requires empty { items_of self.old ≡ [] }
+        ensures after { map row_names (items_of self.new) ≡ table (off_main (path_bytes main.now) (module_versions (map place_of sheet.now))) }
+        ensures same_reference { self.new.items.ghost_name ≡ self.old.items.ghost_name }
+    {
+        for place in sheet {
+            self.enter_off(main, place.row);
+        }
     }
-    count
-}
 
-// Writes the list of a sheet, and says how many rows it has.
-pub(crate) fn list_rows(rows: &mut [Row], main: &Path, sheet: &[Place]) -> usize
-    requires { length (list_of (bare (path_bytes main.now)) (map place_of sheet.now)) ≤ length rows.old }
-    ensures value { result ≡ length (list_of (bare (path_bytes main.now)) (map place_of sheet.now)) }
-    ensures after { map row_names (take result rows.new) ≡ list_of (bare (path_bytes main.now)) (map place_of sheet.now) }
-{
-    let count = enter_all(rows, main, sheet);
-    insert_at(rows, count, 0, main_row(main));
-    count + 1
+    // Writes the list of a sheet.
+    pub(crate) fn write_list(&mut self, main: &Path, sheet: &[Place])
+        requires room { length (list_of (bare (path_bytes main.now)) (map place_of sheet.now)) ≤ 256 }
+        requires empty { items_of self.old ≡ [] }
+        ensures after { map row_names (items_of self.new) ≡ list_of (bare (path_bytes main.now)) (map place_of sheet.now) }
+        ensures same_reference { self.new.items.ghost_name ≡ self.old.items.ghost_name }
+    {
+        self.enter_all(main, sheet);
+        self.insert(0, main_row(main));
+    }
 }

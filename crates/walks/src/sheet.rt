@@ -1,22 +1,24 @@
-// What is on a sheet. A row is written behind the places that there are, unless it is on the main path or on the sheet already. A sheet has at
-// most 256 places.
-ghost use Rattle.std.specs.Prelude.{◌≡◌, ◌≤◌, [], ◌∷◌, map, length, take};
-ghost use Rattle.rules.specs.Names.{same, same_path, has};
+// The sheet of a walk: at most 256 places in a lent slice. A row is written behind the places that there are, unless it is on the main path or
+// on the sheet already.
+ghost use Rattle.std.specs.Prelude.{◌≡◌, ◌<◌, ◌≤◌, [], ◌∷◌, map, length, IfOk, Some};
+ghost use Rattle.std.specs.List.{slice_get};
+ghost use Rattle.rules.specs.Names.{same, same_path};
 ghost use Rattle.rules.specs.Projects.{off_main};
-ghost use Rattle.rules.specs.Walks.{module_versions, written, if_room, ended, done};
+ghost use Rattle.rules.specs.Walks.{module_versions, noted, written, if_room, ended, done, first_sheet};
 ghost use Rattle.names.specs.Paths.{path_bytes};
-ghost use Rattle.modules.specs.Rows.{row_names};
+ghost use Rattle.modules.specs.Rows.{row_names, names_of};
 ghost use Rattle.walks.specs.Places.{place_of, place_in};
-ghost use Rattle.walks.specs.Stops.{Tells};
+ghost use Rattle.walks.specs.Sheets.{sheet_of, EndsAs};
+ghost use Rattle.walks.specs.Views.{bare, Formed};
 
+use crate::as_row::AsRow;
+use crate::filling::Filling;
 use crate::place::Place;
-use crate::stop::Stop;
+use crate::start::main_row;
 use causes::cause::Cause;
 use causes::refusal::Refusal;
-use modules::rows::Row;
+use modules::rows::{ModuleVersion, Row};
 use names::path::Path;
-use ordered::order::Ordered;
-use std::cmp::Ordering;
 
 // The most places that a sheet has.
 const MOST: usize = 256;
@@ -25,86 +27,91 @@ const MOST: usize = 256;
 fn is_same(row: &Row, other: &Row) -> bool
     ensures value { result ≡ same (row_names row.now) (row_names other.now) }
 {
-    match row.compare(other) {
-        Ordering::Equal => true,
-        _ => false,
-    }
+    row == other
 }
 
 // Whether a row is on a path.
 pub fn is_on(row: &Row, path: &Path) -> bool
     ensures value { result ≡ same_path (row_names row.now) (path_bytes path.now) }
 {
-    match row.path.compare(&path.plain()) {
-        Ordering::Equal => true,
-        _ => false,
-    }
+    row.path == path.plain()
 }
 
 // The place of a row on the sheet, if it is there.
 pub fn find_row(sheet: &[Place], row: &Row) -> Option<usize>
     ensures value { result ≡ place_in (module_versions (map place_of sheet.now)) (row_names row.now) }
 {
-    for (i, place) in sheet.iter().enumerate() {
-        if is_same(row, &place.row) {
-            return Some(i);
-        }
-    }
-    None
+    sheet.iter().position(|place| is_same(row, &place.row))
 }
 
-// Whether a row is on the sheet.
-fn is_on_sheet(sheet: &[Place], row: &Row) -> bool
-    ensures value { result ≡ has (module_versions (map place_of sheet.now)) (row_names row.now) }
-{
-    find_row(sheet, row).is_some()
-}
+pub type Sheet<'a> = Filling<'a, Place>;
 
-// Writes a row behind the first `count` places, unless it is on the main path or one of them, and says how many places there are then.
-pub(crate) fn write_row(
-    sheet: &mut [Place],
-    count: usize,
-    main: &Path,
-    from: usize,
-    row: Row,
-) -> Result<usize, Stop>
-    requires { (count ≤ 256) × (256 ≤ length sheet.old) }
-    ensures value { Tells (if_room (ended done) (written from (off_main (path_bytes main.now) (row_names row ∷ [])) (map place_of (take count sheet.old)))) result sheet.new }
-{
-    if is_on(&row, main) {
-        return Ok(count);
-    }
-    if is_on_sheet(&sheet[0..count], &row) {
-        return Ok(count);
-    }
-    if count == MOST {
-        let refusal = Refusal::at(Cause::TooManyModuleVersions, 0);
-        return Err(Stop {
-            places: MOST,
-            refusal,
+impl<'a> Filling<'a, Place> {
+    // The main row alone.
+    pub fn begin(places: &'a mut [Place], main: &Path) -> Sheet<'a>
+        requires { 256 ≤ length places.old }
+        ensures value { sheet_of result ≡ first_sheet (bare (path_bytes main.now)) }
+        ensures same_reference { result.items.ghost_name ≡ places.entry.ghost_name }
+    {
+        let mut sheet = Filling::empty(places);
+        sheet.push(Place {
+            row: main_row(main),
+            from: 0,
         });
+        sheet
     }
-    sheet[count] = Place { row, from };
-    Ok(count + 1)
-}
 
-// Writes the rows of an answer, each one that is not yet on the sheet.
-pub(crate) fn write_rows(
-    sheet: &mut [Place],
-    count: usize,
-    main: &Path,
-    from: usize,
-    rows: &[Row],
-) -> Result<usize, Stop>
-    requires { (count ≤ 256) × (256 ≤ length sheet.old) }
-    ensures value { Tells (if_room (ended done) (written from (off_main (path_bytes main.now) (map row_names rows.now)) (map place_of (take count sheet.old)))) result sheet.new }
-{
-    let mut places = count;
-    for row in rows {
-        match write_row(sheet, places, main, from, *row) {
-            Ok(more) => places = more,
-            Err(stop) => return Err(stop),
+    // The place at which a row stands: where it is on the sheet already, or else behind the others.
+    pub fn note(&mut self, from: usize, row: Row) -> Result<usize, Refusal>
+        ensures value { EndsAs (if_room (ended done) (noted from (row_names row) (sheet_of self.old))) result (sheet_of self.new) }
+        ensures place { IfOk result (λ at. slice_get (module_versions (sheet_of self.new)) at ≡ Some (row_names row)) }
+        ensures same_reference { self.new.items.ghost_name ≡ self.old.items.ghost_name }
+    {
+        if let Some(at) = find_row(self.as_slice(), &row) {
+            return Ok(at);
         }
+        let at = self.len();
+        if at == MOST {
+            return Err(Refusal::from(Cause::TooManyModuleVersions));
+        }
+        self.push(Place { row, from });
+        Ok(at)
     }
-    Ok(places)
+
+    // Notes a row, unless it is on the main path.
+    pub fn write(&mut self, main: &Path, from: usize, row: Row) -> Result<(), Refusal>
+        ensures value { EndsAs (if_room (ended done) (written from (off_main (path_bytes main.now) (row_names row ∷ [])) (sheet_of self.old))) result (sheet_of self.new) }
+        ensures same_reference { self.new.items.ghost_name ≡ self.old.items.ghost_name }
+    {
+        if !is_on(&row, main) {
+            self.note(from, row)?;
+        }
+        Ok(())
+    }
+
+    // Writes one row after another.
+    pub fn write_all<T: AsRow>(
+        &mut self,
+        main: &Path,
+        from: usize,
+        rows: &[T],
+    ) -> Result<(), Refusal>
+        ensures value { EndsAs (if_room (ended done) (written from (off_main (path_bytes main.now) (map T.AsRow.names rows.now)) (sheet_of self.old))) result (sheet_of self.new) }
+        ensures same_reference { self.new.items.ghost_name ≡ self.old.items.ghost_name }
+    {
+        for row in rows {
+            self.write(main, from, row.as_row())?;
+        }
+        Ok(())
+    }
+
+    // The module version at a place behind the main row.
+    // Kept: that the rows are formed is asked, and no fact of the type, since a row is written before it is known to be well formed.
+    pub fn module_version(&self, at: usize) -> ModuleVersion
+        requires place { (1 ≤ at) × (at < length (sheet_of self.now)) }
+        requires formed { Formed (sheet_of self.now) }
+        ensures value { slice_get (module_versions (sheet_of self.now)) at ≡ Some (names_of result) }
+    {
+        self.as_slice()[at].row.checked()
+    }
 }

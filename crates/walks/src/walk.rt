@@ -1,103 +1,74 @@
 // The walk. The places from 1 on are questioned in order, each once, and what a place requires is written behind the others. It stops at the
 // first fault, with the number of the place, or where a 257th place is needed.
-ghost use Rattle.std.specs.Prelude.{◌≡◌, ◌<◌, ◌≤◌, true, map, length, take};
-ghost use Rattle.rules.specs.Names.{is_module_version};
+ghost use Rattle.std.specs.Prelude.{◌≡◌, ◌<◌, ◌≤◌, map, length};
 ghost use Rattle.rules.specs.Calls.{refusal_at};
 ghost use Rattle.rules.specs.Projects.{remaining};
-ghost use Rattle.rules.specs.Walks.{walk as walked};
+ghost use Rattle.rules.specs.Walks.{walk as walked, first_sheet};
 ghost use Rattle.causes.specs.Told.{refusal_of};
 ghost use Rattle.names.specs.Paths.{path_bytes};
-ghost use Rattle.modules.specs.Rows.{row_names, names_of};
+ghost use Rattle.modules.specs.Rows.{names_of};
 ghost use Rattle.source.specs.Answers.{fault_of};
-ghost use Rattle.walks.specs.Places.{place_of};
-ghost use Rattle.walks.specs.Stops.{Tells};
-ghost use Rattle.walks.specs.Views.{seen_by, Formed, asked_at, walk_from};
+ghost use Rattle.walks.specs.Sheets.{sheet_of, EndsAs};
+ghost use Rattle.walks.specs.Views.{bare, seen_by, Formed, asked_at, walk_from};
 
-use crate::place::Place;
-use crate::sheet::write_rows;
-use crate::start::{main_row, write_start};
-use crate::stop::Stop;
+use crate::sheet::Sheet;
 use causes::refusal::Refusal;
 use modules::rows::{ModuleVersion, Row};
 use names::path::Path;
 use source::fault::Fault;
 use source::questions::Source;
 
-// The module version that a well formed row is.
-fn checked(row: &Row) -> ModuleVersion
-    requires { is_module_version (row_names row.now) ≡ true }
-    ensures value { names_of result ≡ row_names row.now }
+// The refusal that a fault of a place brings.
+pub fn refused_at(at: usize, fault: Fault) -> Refusal
+    ensures value { refusal_of result ≡ refusal_at at (fault_of fault) }
 {
-    match row.check() {
-        Some(of) => of,
-        None => unreachable(),
-    }
-}
-
-// The stop that a fault of a place brings.
-pub fn stop_at(places: usize, at: usize, fault: Fault) -> Stop
-    ensures after { result.places ≡ places }
-    ensures refused { refusal_of result.refusal ≡ refusal_at at (fault_of fault) }
-{
-    Stop {
-        places,
-        refusal: Refusal {
-            cause: fault.cause,
-            place: fault.place,
-            depth: fault.depth,
-            sheet_place: at,
-        },
+    Refusal {
+        cause: fault.cause,
+        place: fault.place,
+        depth: fault.depth,
+        sheet_place: at,
     }
 }
 
 // Questions a place, and writes what it requires.
+// Kept: the source, the main path and the sheet are passed. In a struct each would need a clause that its reference stays the same.
 fn question<S: Source>(
     source: &mut S,
     main: &Path,
-    sheet: &mut [Place],
-    count: usize,
+    sheet: &mut Sheet,
     at: usize,
-) -> Result<usize, Stop>
-    requires room { (count ≤ 256) × (256 ≤ length sheet.old) × (1 ≤ at) × (at < count) }
-    requires formed { Formed (map place_of (take count sheet.old)) }
+) -> Result<(), Refusal>
+    requires place { (1 ≤ at) × (at < length (sheet_of sheet.old)) }
+    requires formed { Formed (sheet_of sheet.old) }
     ensures same { S.Source.meaning source.new ≡ S.Source.meaning source.old }
     ensures inside { S.Source.inside source.new ≡ S.Source.inside source.old }
-    ensures value { Tells (asked_at (seen_by (path_bytes main.now) (S.Source.meaning source.old)) at (map place_of (take count sheet.old))) result sheet.new }
+    ensures value { EndsAs (asked_at (seen_by (path_bytes main.now) (S.Source.meaning source.old)) at (sheet_of sheet.old)) result (sheet_of sheet.new) }
+    ensures same_reference { sheet.new.items.ghost_name ≡ sheet.old.items.ghost_name }
 {
-    let of = checked(&sheet[at].row);
+    let of = sheet.module_version(at);
     let mut rows = [Row::blank(); 64];
-    match source.requirements(&of, &mut rows) {
-        Ok(found) => {
-            let answered = found.count;
-            write_rows(sheet, count, main, at, &rows[0..answered])
-        }
-        Err(fault) => Err(stop_at(count, at, fault)),
-    }
+    let found = source
+        .requirements(&of, &mut rows)
+        .map_err(|fault| refused_at(at, fault))?;
+    sheet.write_all(main, at, &rows[..found.count])
 }
 
 // Questions the places from 1 on.
-fn walk_on<S: Source>(
-    source: &mut S,
-    main: &Path,
-    sheet: &mut [Place],
-    count: usize,
-) -> Result<usize, Stop>
-    requires room { (1 ≤ count) × (count ≤ 256) × (256 ≤ length sheet.old) }
-    requires formed { Formed (map place_of (take count sheet.old)) }
+fn walk_on<S: Source>(source: &mut S, main: &Path, sheet: &mut Sheet) -> Result<(), Refusal>
+    requires begun { 1 ≤ length (sheet_of sheet.old) }
+    requires formed { Formed (sheet_of sheet.old) }
     ensures same { S.Source.meaning source.new ≡ S.Source.meaning source.old }
     ensures inside { S.Source.inside source.new ≡ S.Source.inside source.old }
-    ensures value { Tells (walked (remaining (seen_by (path_bytes main.now) (S.Source.meaning source.old))) 255 1 (map place_of (take count sheet.old))) result sheet.new }
+    ensures value { EndsAs (walked (remaining (seen_by (path_bytes main.now) (S.Source.meaning source.old))) 255 1 (sheet_of sheet.old)) result (sheet_of sheet.new) }
+    ensures same_reference { sheet.new.items.ghost_name ≡ sheet.old.items.ghost_name }
 {
-    let mut places = count;
     let mut at = 1;
-    while at < places {
-        match question(source, main, sheet, places, at) {
-            Ok(more) => places = more,
-            Err(stop) => return Err(stop),
-        }
+    // Kept: the sheet grows while it is walked, so that no range counts its places.
+    while at < sheet.len() {
+        question(source, main, sheet, at)?;
         at += 1;
     }
-    Ok(places)
+    Ok(())
 }
 
 // Walks from the main row and the rows that it starts from.
@@ -105,19 +76,14 @@ pub(crate) fn walk<S: Source>(
     source: &mut S,
     main: &Path,
     start: &[ModuleVersion],
-    sheet: &mut [Place],
-) -> Result<usize, Stop>
-    requires { 256 ≤ length sheet.old }
+    sheet: &mut Sheet,
+) -> Result<(), Refusal>
+    requires begun { sheet_of sheet.old ≡ first_sheet (bare (path_bytes main.now)) }
     ensures same { S.Source.meaning source.new ≡ S.Source.meaning source.old }
     ensures inside { S.Source.inside source.new ≡ S.Source.inside source.old }
-    ensures value { Tells (walk_from (seen_by (path_bytes main.now) (S.Source.meaning source.old)) (map names_of start.now)) result sheet.new }
+    ensures value { EndsAs (walk_from (seen_by (path_bytes main.now) (S.Source.meaning source.old)) (map names_of start.now)) result (sheet_of sheet.new) }
+    ensures same_reference { sheet.new.items.ghost_name ≡ sheet.old.items.ghost_name }
 {
-    sheet[0] = Place {
-        row: main_row(main),
-        from: 0,
-    };
-    match write_start(sheet, main, start) {
-        Ok(count) => walk_on(source, main, sheet, count),
-        Err(stop) => Err(stop),
-    }
+    sheet.write_all(main, 0, start)?;
+    walk_on(source, main, sheet)
 }

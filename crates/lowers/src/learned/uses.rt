@@ -2,6 +2,7 @@ ghost use Rattle.std.specs.Prelude.{◌≡◌, ◌<◌, true, false, [], ◌∷�
 ghost use Rattle.lowers.specs.Learned.{edges_in, is_marked as mark_at};
 
 use super::{Edge, Learned};
+use arrayvec::ArrayVec;
 
 impl Learned {
     // Of nothing.
@@ -11,8 +12,7 @@ impl Learned {
     {
         Learned {
             marked: [false; 256],
-            edges: [Edge { from: 0, to: 0 }; 16384],
-            count: 0,
+            edges: ArrayVec::new(),
         }
     }
 
@@ -39,7 +39,6 @@ impl Learned {
         ensures marks { self.new.marked ≡ self.old.marked }
         ensures edges { edges_in self.new ≡ edges_in self.old ++ record { from = from; to = to } ∷ [] }
     {
-        self.edges[self.count] = Edge { from, to };
-        self.count += 1;
+        self.edges.push(Edge { from, to });
     }
 }

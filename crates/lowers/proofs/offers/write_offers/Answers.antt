@@ -1,5 +1,5 @@
 -- One path more, a path whose offer stops it, and the end. Assumes nothing.
-use Rattle.std.proofs.Common.{◌≡◌, ℕ, zero, suc, ◌+◌, ◌<◌, ◌≤◌, true, List, [], ◌∷◌, map, length, get_or, take, drop, Ok, Err, sym, refl, ap, ◌∙◌, subst, arith}
+use Rattle.std.proofs.Common.{◌≡◌, ℕ, zero, suc, ◌+◌, ◌<◌, true, List, [], ◌∷◌, map, length, get_or, drop, Ok, sym, refl, ap, ◌∙◌, subst, arith}
 use Rattle.std.specs.List.{AllByRecursion}
 use Rattle.std.proofs.lemmas.List.{at_drop_more, at_drop_all}
 use Rattle.rules.specs.Paths.{is_path}
@@ -10,10 +10,11 @@ use Rattle.rules.specs.Walks.{ended, done}
 use Rattle.rules.specs.Lowers.{offer_written, offers_written}
 use Rattle.modules.specs.Rows.{row_names}
 use Rattle.modules.specs.declared.rows.Row.{Row}
-use Rattle.walks.specs.Places.{place_of}
-use Rattle.walks.specs.Stops.{Tells}
-use Rattle.walks.proofs.Telling.{front_long, tells_by, tells_done}
-use Rattle.lowers.proofs.Offering.{offer_ok, offer_err}
+use Rattle.walks.specs.Sheets.{sheet_of}
+use Rattle.walks.proofs.Fillings.{sheet_short}
+use Rattle.walks.proofs.Telling.{ends_by, ends_done}
+use Rattle.lowers.proofs.Looking.{ceilings_formed}
+use Rattle.lowers.proofs.Offering.{told_at, offer_ok}
 use Rattle.lowers.proofs.offers.write_offers.Goals as goal
 
 all_at : (P : ModuleVersion → Type 0) (rows : List Row) (i : ℕ) (x : Row) → AllByRecursion P (map row_names rows) → i < length rows → x ≡ get_or rows i x → P (row_names x)
@@ -30,55 +31,31 @@ first_left m rows i x s h e =
 
 pub write_offer-requires : goal.write_offer-requires
 write_offer-requires g c =
-    let (short, same, inside, rest) = c.loop-ceiling.invariant in
-    let long : 256 ≤ length c.loop-ceiling.sheet = omega (arith, c.loop-ceiling.auto.sheet) in
-    record { room = (short, long); formed = all_at (λ x. is_path x.path ≡ true) c.args.ceilings.now c.loop-ceiling.ceiling-index c.ceiling-item.result c.requires.formed c.loop-ceiling-test.true c.ceiling-item.is }
+    let formed = subst (λ (cs : List ModuleVersion). AllByRecursion (λ x. is_path x.path ≡ true) cs) (sym c.as_slice-ceiling-items.ensures.value) (ceilings_formed c.args.ceilings.now) in
+    record { formed = all_at (λ x. is_path x.path ≡ true) c.as_slice-ceiling-items.result.now c.loop-ceiling.ceiling-index c.ceiling-item.result formed c.loop-ceiling-test.true c.ceiling-item.is }
 
 pub loop-ceiling-preserved : goal.loop-ceiling-preserved
 loop-ceiling-preserved g c =
-    let (short, same, inside, rest) = c.loop-ceiling.invariant in
+    let (named, same, inside, rest) = c.loop-ceiling.invariant in
     let m = g.S.Source.meaning c.args.source.now in
-    let rows = c.args.ceilings.now in
+    let rows = c.as_slice-ceiling-items.result.now in
     let i = c.loop-ceiling.ceiling-index in
     let x = c.ceiling-item.result in
-    let s = map place_of (take c.loop-ceiling.places c.loop-ceiling.sheet) in
-    let after = c.write_offer.new.sheet in
-    let t = subst (λ (q : Meaning). Tells (offer_written (ended done) (row_names x) s (q.listing (row_names x).path)) (Ok c.in-Ok.more) after) same c.in-Ok.ensures.value in
-    let (few, on) = offer_ok m (offers_written m (ended done) (map row_names (drop (i + 1) rows))) (row_names x) s after c.in-Ok.more t in
-    (few, c.in-Ok.ensures.same ∙ same, c.in-Ok.ensures.inside ∙ inside, sym (first_left m rows i x s c.loop-ceiling-test.true c.ceiling-item.is ∙ on) ∙ rest)
+    let s = sheet_of c.loop-ceiling.sheet in
+    let left = sheet_of c.write_offer.new.sheet in
+    let t = told_at (λ (q : Meaning). offer_written (ended done) (row_names x) s (q.listing (row_names x).path)) _ _ same (Ok tt) left c.in_ok-write_offer.ensures.value in
+    let on = offer_ok m (offers_written m (ended done) (map row_names (drop (i + 1) rows))) (row_names x) s left t in (
+      c.write_offer.ensures.same_reference ∙ named,
+      c.in_ok-write_offer.ensures.same ∙ same,
+      c.in_ok-write_offer.ensures.inside ∙ inside,
+      sym (first_left m rows i x s c.loop-ceiling-test.true c.ceiling-item.is ∙ on) ∙ rest,
+    )
 
-pub returns-in-Err : goal.returns-in-Err
-returns-in-Err g c =
-    let (short, same, inside, rest) = c.loop-ceiling.invariant in
+pub returns-clause-value : goal.returns-clause-value
+returns-clause-value g c =
+    let (named, same, inside, rest) = c.loop-ceiling.invariant in
     let m = g.S.Source.meaning c.args.source.now in
-    let rows = c.args.ceilings.now in
-    let i = c.loop-ceiling.ceiling-index in
-    let x = c.ceiling-item.result in
-    let s = map place_of (take c.loop-ceiling.places c.loop-ceiling.sheet) in
-    let after = c.write_offer.new.sheet in
-    let stop = c.in-Err.stop in
-    let t = subst (λ (q : Meaning). Tells (offer_written (ended done) (row_names x) s (q.listing (row_names x).path)) (Err stop) after) same c.in-Err.ensures.value in
-    record {
-      same = c.in-Err.ensures.same ∙ same;
-      inside = c.in-Err.ensures.inside ∙ inside;
-      value = tells_by _ _ (Err stop) after (sym rest ∙ first_left m rows i x s c.loop-ceiling-test.true c.ceiling-item.is)
-          (offer_err m (offers_written m (ended done) (map row_names (drop (i + 1) rows))) (row_names x) s after stop t);
-    }
-
-pub returns : goal.returns
-returns g c =
-    let (short, same, inside, rest) = c.loop-ceiling.invariant in
-    let m = g.S.Source.meaning c.args.source.now in
-    let n = c.loop-ceiling.places in
-    let ps = c.loop-ceiling.sheet in
-    let s = map place_of (take n ps) in
-    let fits : n ≤ length ps = omega (arith, c.loop-ceiling.auto.sheet) in
-    let long = front_long ps n fits in
-    let few : length s ≤ 256 = omega (arith, long) in
-    record {
-      same = same;
-      inside = inside;
-      value = tells_by _ (ended done s) (Ok n) ps
-          (sym rest ∙ at_drop_all (λ (ys : List Row). offers_written m (ended done) (map row_names ys) s) c.args.ceilings.now c.loop-ceiling.ceiling-index c.loop-ceiling-test.false)
-          (tells_done s ps n few fits refl);
-    }
+    let s = sheet_of c.loop-ceiling.sheet in
+    ends_by _ (ended done s) (Ok tt) s
+    (sym rest ∙ at_drop_all (λ (ys : List Row). offers_written m (ended done) (map row_names ys) s) c.as_slice-ceiling-items.result.now c.loop-ceiling.ceiling-index c.loop-ceiling-test.false)
+    (ends_done s s tt (sheet_short c.loop-ceiling.sheet) refl)

@@ -1,90 +1,49 @@
--- The place is well formed; its question brings a list or a fault. Assumes nothing.
-use Rattle.std.proofs.Common.{◌≡◌, ℕ, ◌-◌, ◌<◌, ◌≤◌, true, List, map, length, get_or, take, replicate, sym, ap, ◌∙◌, subst, arith}
+-- The question brings a list or a fault. Assumes nothing.
+use Rattle.std.proofs.Common.{rules, ◌≡◌, ◌≤◌, length, replicate, Err, sym, ap, ◌∙◌, arith}
 use lib.ListN.{length-replicate}
-use Rattle.rules.specs.Names.{ModuleVersion, is_module_version}
-use Rattle.rules.specs.Sources.{found}
-use Rattle.rules.specs.Slices.{blank, blank_place}
-use Rattle.rules.specs.Projects.{remaining}
-use Rattle.rules.specs.Walks as R
+use Rattle.std.proofs.lemmas.Result.{err_from_is_err_and}
+use Rattle.rules.specs.Sources.{narrowed}
+use Rattle.rules.specs.Slices.{blank}
+use Rattle.rules.specs.Projects.{off_main, remaining}
+use Rattle.rules.specs.Walks.{answered, ended, done}
+use Rattle.rules.specs.Calls.{refusal_at}
+use Rattle.causes.specs.Told.{refusal_of}
 use Rattle.names.specs.Paths.{path_bytes}
 use Rattle.modules.specs.Rows.{row_names, names_of}
-use Rattle.source.specs.Answers.{fault_of}
-use Rattle.source.proofs.Telling.{found_told, found_fits, fault_told}
-use Rattle.walks.specs.declared.place.Place.{Place}
-use Rattle.walks.specs.Places.{place_of}
+use Rattle.source.specs.Answers.{answer_of, fault_of}
+use Rattle.source.proofs.Telling.{found_told, fault_told}
+use Rattle.walks.specs.Sheets.{sheet_of}
 use Rattle.walks.specs.Views.{seen_by}
-use Rattle.walks.proofs.Telling.{front_long, tells_by}
-use Rattle.walks.proofs.Walking.{read_at, reads, asked_found, asked_fault, tells_fault}
+use Rattle.walks.proofs.Fillings.{sheet_short}
+use Rattle.walks.proofs.Telling.{ends_by}
+use Rattle.walks.proofs.Walking.{was_ok, was_err, asked_of, ends_fault}
 use Rattle.walks.proofs.walk.question.Goals as goal
 
--- the row that is read is that of the place
-row_at : (ps : List Place) (n i : ℕ) (p : Place) → i < n → n ≤ length ps → row_names (get_or ps i p).row ≡ (get_or (map place_of (take n ps)) i blank_place).row
-row_at ps n i p l h = sym (ap (λ (q : R.Place). q.row) (read_at ps n i p l h))
-
-in_front : (ps : List Place) (n i : ℕ) → i < n → n ≤ length ps → i < length (map place_of (take n ps))
-in_front ps n i l h = omega (arith, front_long ps n h)
-
-pub checked-of-requires : goal.checked-of-requires
-checked-of-requires g c =
-    let ps = c.args.sheet.now in
-    let n = c.args.count in
-    let i = c.args.at in
-    let w = seen_by (path_bytes c.args.main.now) (g.S.Source.meaning c.args.source.now) in
-    let lt : i < n = omega arith in
-    let one : 1 ≤ i = omega arith in
-    let fits : n ≤ length ps = omega arith in
-    subst (λ (x : ModuleVersion). is_module_version x ≡ true) (sym (row_at ps n i c.index-sheet-at.result lt fits))
-    (c.requires.formed i (get_or (map place_of (take n ps)) i blank_place) one (reads (remaining w) i (map place_of (take n ps)) (in_front ps n i lt fits)))
-
-pub slice_bounds-write_rows-end : goal.slice_bounds-write_rows-end
-slice_bounds-write_rows-end g c =
-    let x = names_of c.checked-of.result in
-    let all : 64 ≤ length (replicate 64 c.blank-rows.result) = omega (arith, length-replicate 64 c.blank-rows.result) in
-    found_fits row_names blank (length (replicate 64 c.blank-rows.result)) c.in-Ok.found.count ((g.S.Source.meaning c.args.source.now).requirements x) c.requirements.new.rows all
-    (c.in-Ok.ensures.value, c.in-Ok.ensures.items)
-
-pub returns-in-Ok : goal.returns-in-Ok
-returns-in-Ok g c =
-    let ps = c.args.sheet.now in
-    let n = c.args.count in
-    let i = c.args.at in
+pub returns-in_err-found-clause-value : goal.returns-in_err-found-clause-value
+returns-in_err-found-clause-value g c =
     let m = g.S.Source.meaning c.args.source.now in
-    let w = seen_by (path_bytes c.args.main.now) m in
-    let s = map place_of (take n ps) in
-    let lt : i < n = omega arith in
-    let fits : n ≤ length ps = omega arith in
-    let x = names_of c.checked-of.result in
-    let e = c.checked-of.ensures.value ∙ row_at ps n i c.index-sheet-at.result lt fits in
+    let main = path_bytes c.args.main.now in
+    let s = sheet_of c.args.sheet.now in
+    let x = names_of c.module_version-of.result in
     let all : 64 ≤ length (replicate 64 c.blank-rows.result) = omega (arith, length-replicate 64 c.blank-rows.result) in
-    let k = c.in-Ok.found.count in
-    let k0 : k ≡ k - 0 = omega arith in
-    let rows = c.requirements.new.rows in
-    let a = found_told row_names blank (length (replicate 64 c.blank-rows.result)) k (m.requirements x) rows all (c.in-Ok.ensures.value, c.in-Ok.ensures.items)
-    ∙ ap (λ j. found (map row_names (take j rows))) k0 in
-    record {
-      same = c.in-Ok.ensures.same;
-      inside = c.in-Ok.ensures.inside;
-      value = tells_by _ _ c.write_rows.result c.write_rows.new.sheet (asked_found w i s (in_front ps n i lt fits) x e (map row_names (take (k - 0) rows)) a) c.write_rows.ensures.value;
-    }
+    let (fault, is, brought) = was_err _ c.requirements.result c.map_err.result c.map_err.ensures.cases c.in_err-found.field-0.0 c.in_err-found.was in
+    let refused : refusal_of c.in_err-found.field-0.0 ≡ refusal_at c.args.at (fault_of fault) = search rules in
+    let told = ap answer_of (sym is) ∙ c.requirements.ensures.value in
+    let a = fault_told row_names blank (length (replicate 64 c.blank-rows.result)) (fault_of fault) (m.requirements x) c.requirements.new.rows all (told, c.requirements.ensures.items) in
+    let p = err_from_is_err_and c.from_residual.result c.from_residual.ensures.1 in
+    rw (p.1, p.2) (ends_by _ _ (Err c.in_err-found.field-0.0) s
+    (asked_of (remaining (seen_by main m)) (ended done) c.args.at s x c.module_version-of.ensures.value ∙ ap (λ b. answered (ended done) c.args.at s (narrowed (off_main main) b)) a)
+    (ends_fault c.args.at (fault_of fault) c.in_err-found.field-0.0 s (sheet_short c.args.sheet.now) refused))
 
-pub returns-in-Err : goal.returns-in-Err
-returns-in-Err g c =
-    let ps = c.args.sheet.now in
-    let n = c.args.count in
-    let i = c.args.at in
+pub returns-clause-value : goal.returns-clause-value
+returns-clause-value g c =
     let m = g.S.Source.meaning c.args.source.now in
-    let w = seen_by (path_bytes c.args.main.now) m in
-    let s = map place_of (take n ps) in
-    let lt : i < n = omega arith in
-    let fits : n ≤ length ps = omega arith in
-    let short : n ≤ 256 = omega arith in
-    let x = names_of c.checked-of.result in
-    let e = c.checked-of.ensures.value ∙ row_at ps n i c.index-sheet-at.result lt fits in
+    let main = path_bytes c.args.main.now in
+    let s = sheet_of c.args.sheet.now in
+    let x = names_of c.module_version-of.result in
     let all : 64 ≤ length (replicate 64 c.blank-rows.result) = omega (arith, length-replicate 64 c.blank-rows.result) in
-    let f = fault_of c.in-Err.fault in
-    let a = fault_told row_names blank (length (replicate 64 c.blank-rows.result)) f (m.requirements x) c.requirements.new.rows all (c.in-Err.ensures.value, c.in-Err.ensures.items) in
-    record {
-      same = c.in-Err.ensures.same;
-      inside = c.in-Err.ensures.inside;
-      value = tells_by _ _ _ ps (asked_fault w i s (in_front ps n i lt fits) x e f a) (tells_fault i n f c.stop_at.result ps short fits c.stop_at.ensures.after c.stop_at.ensures.refused);
-    }
+    let told = ap answer_of (sym (was_ok _ c.requirements.result c.map_err.result c.map_err.ensures.cases c.in_ok-found.found c.in_ok-found.was)) ∙ c.requirements.ensures.value in
+    let a = found_told row_names blank (length (replicate 64 c.blank-rows.result)) c.in_ok-found.found.count (m.requirements x) c.requirements.new.rows all (told, c.requirements.ensures.items) in
+    ends_by _ _ c.write_all.result (sheet_of c.write_all.new.self)
+    (asked_of (remaining (seen_by main m)) (ended done) c.args.at s x c.module_version-of.ensures.value ∙ ap (λ b. answered (ended done) c.args.at s (narrowed (off_main main) b)) a)
+    c.write_all.ensures.value

@@ -1,20 +1,21 @@
 -- The walk from this place on is the whole walk, and every row but the main row is well formed. Assumes nothing.
-use Rattle.std.proofs.Common.{◌≡◌, ◌-◌, ◌≤◌, map, take}
+use Rattle.std.proofs.Common.{◌≡◌, ◌-◌, ◌≤◌, length}
 use Rattle.rules.specs.Projects.{remaining}
 use Rattle.rules.specs.Walks.{walk}
 use Rattle.names.specs.Paths.{path_bytes}
-use Rattle.walks.specs.Places.{place_of}
+use Rattle.walks.specs.Sheets.{sheet_of}
 use Rattle.walks.specs.Views.{seen_by, Formed}
 use Rattle.walks.proofs.walk.walk_on.Given as goal
 
 abbrev pub invariant-loop-at : goal.invariant-loop-at
 invariant-loop-at g l =
-    (1 ≤ l.at) × (l.at ≤ l.places) × (l.places ≤ 256)
-    × Formed (map place_of (take l.places l.sheet))
+    (1 ≤ l.at) × (l.at ≤ length (sheet_of l.sheet))
+    × Formed (sheet_of l.sheet)
+    × (l.sheet.items.ghost_name ≡ l.initial.sheet.items.ghost_name)
     × (g.S.Source.meaning l.source ≡ g.S.Source.meaning l.initial.source)
     × (g.S.Source.inside l.source ≡ g.S.Source.inside l.initial.source)
-    × (walk (remaining (seen_by (path_bytes l.main) (g.S.Source.meaning l.initial.source))) (256 - l.at) l.at (map place_of (take l.places l.sheet))
-    ≡ walk (remaining (seen_by (path_bytes l.main) (g.S.Source.meaning l.initial.source))) 255 1 (map place_of (take l.count l.initial.sheet)))
+    × (walk (remaining (seen_by (path_bytes l.main) (g.S.Source.meaning l.initial.source))) (256 - l.at) l.at (sheet_of l.sheet)
+    ≡ walk (remaining (seen_by (path_bytes l.main) (g.S.Source.meaning l.initial.source))) 255 1 (sheet_of l.initial.sheet))
 
 abbrev pub decreases-loop-at : goal.decreases-loop-at
 decreases-loop-at g l = 256 - l.at

@@ -1,20 +1,34 @@
 -- Before the first pass, and after one. Assumes nothing.
-use Rattle.std.proofs.Common.{◌≡◌, ℕ, Bool, cond, sym, refl, ap, ◌∙◌, subst, true≢false, arith}
-use Rattle.lowers.specs.Spreads.{Narrow}
+use Rattle.std.proofs.Common.{List, sym, refl, ◌∙◌, subst}
+use Rattle.lowers.specs.declared.learned.Edge.{Edge}
+use Rattle.lowers.specs.Learned.{edges_in}
+use Rattle.lowers.specs.Spreads.{Narrow, Spread, Closed}
 use Rattle.lowers.proofs.Spreading.{spread_none, spread_more}
 use Rattle.lowers.proofs.learned.Learned.spread.Goals as goal
 
-pub loop-more-init : goal.loop-more-init
-loop-more-init c = (refl, spread_none c.args.self.now, λ t. absurd (true≢false t))
+pub loop-init : goal.loop-init
+loop-init c = (refl, spread_none (edges_in c.args.self.now) c.args.self.now.marked)
 
-pub spread_once-more-requires : goal.spread_once-more-requires
-spread_once-more-requires c = subst Narrow (sym c.loop-more.invariant.0) c.requires
+pub spread_once-requires : goal.spread_once-requires
+spread_once-requires c = subst Narrow (sym c.loop.invariant.0) c.requires
 
-pub loop-more-preserved : goal.loop-more-preserved
-loop-more-preserved c =
-    let (edges, spread, still) = c.loop-more.invariant in
-    let pass = c.spread_once-more.ensures.marks in
-    (c.spread_once-more.ensures.edges ∙ edges, spread_more c.args.self.now c.loop-more.self c.spread_once-more.new.self spread edges pass.spread, pass.still)
+pub loop-preserved : goal.loop-preserved
+loop-preserved c =
+    let (same, spread) = c.loop.invariant in
+    let m = c.loop.self.marked in
+    let n = c.spread_once.new.self.marked in (
+      c.spread_once.ensures.edges ∙ same,
+      spread_more (edges_in c.args.self.now) c.args.self.now.marked m spread n (subst (λ (es : List Edge). Spread es m n) same c.spread_once.ensures.marks.spread),
+    )
 
-pub loop-more-smaller : goal.loop-more-smaller
-loop-more-smaller c = let one : ◌≡◌ {A = ℕ} (cond c.loop-more.more 1 0) 1 = ap (λ (b : Bool). cond b 1 0) c.loop-more-test.true in omega (arith, c.spread_once-more.ensures.marks.fewer, one)
+pub returns : goal.returns
+returns c =
+    let (same, spread) = c.loop.invariant in
+    let m = c.loop.self.marked in
+    let n = c.spread_once.new.self.marked in
+    record {
+      marks = record {
+        spread = spread_more (edges_in c.args.self.now) c.args.self.now.marked m spread n (subst (λ (es : List Edge). Spread es m n) same c.spread_once.ensures.marks.spread);
+        closed = subst (λ (es : List Edge). Closed es n) same (c.spread_once.ensures.marks.still c.loop-test.false);
+      };
+    }

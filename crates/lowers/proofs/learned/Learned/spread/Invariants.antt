@@ -1,11 +1,11 @@
--- What was marked so far; where a pass marked no more, nothing is left to mark. Assumes nothing.
-use Rattle.std.proofs.Common.{◌≡◌, ◌+◌, false, cond}
+-- What was marked so far; each pass marks another place, or is the last. Assumes nothing.
+use Rattle.std.proofs.Common.{◌≡◌}
 use Rattle.lowers.specs.Learned.{edges_in}
-use Rattle.lowers.specs.Spreads.{unmarked, Spread, Closed}
+use Rattle.lowers.specs.Spreads.{unmarked, Spread}
 use Rattle.lowers.proofs.learned.Learned.spread.Given as goal
 
-abbrev pub invariant-loop-more : goal.invariant-loop-more
-invariant-loop-more l = (edges_in l.self ≡ edges_in l.initial.self) × Spread l.initial.self l.self × (l.more ≡ false → Closed l.self)
+abbrev pub invariant-loop : goal.invariant-loop
+invariant-loop l = (edges_in l.self ≡ edges_in l.initial.self) × Spread (edges_in l.initial.self) l.initial.self.marked l.self.marked
 
-abbrev pub decreases-loop-more : goal.decreases-loop-more
-decreases-loop-more l = unmarked l.self.marked + cond l.more 1 0
+abbrev pub decreases-loop : goal.decreases-loop
+decreases-loop l = unmarked l.self.marked
