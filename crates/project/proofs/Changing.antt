@@ -4,7 +4,7 @@ use Rattle.std.specs.Ordering.{is_le}
 use Rattle.rules.specs.Names.{ModuleVersion, has}
 use Rattle.rules.specs.Versions.{version_order}
 use Rattle.rules.specs.Rows.{row_of, with_row, with_exclusion}
-use Rattle.rules.specs.Causes.{Cause, table_full, nothing_to_change}
+use Rattle.rules.specs.Causes.{table_full, nothing_to_change}
 use Rattle.causes.specs.declared.cause.Cause as C
 use Rattle.causes.specs.declared.cause.Cause.TheVariants.{TableFull, NothingToChange}
 use Rattle.causes.specs.Told.{cause_of}
@@ -14,11 +14,7 @@ use Rattle.rules.specs.Calls.{Outcome, accepts, refuses, refusal_for, raised, ex
 use Rattle.modules.specs.Raised.{raise_told_by, raise_told}
 use Rattle.modules.specs.declared.requirements.raises.NotRaised.{NotRaised}
 use Rattle.modules.specs.declared.requirements.raises.NotRaised.TheVariants.{NotHigher, NoRoom}
-
--- the cause of a refused raise
-abbrev pub raise_cause : NotRaised → Cause
-raise_cause NotHigher = nothing_to_change
-raise_cause NoRoom = table_full
+use Rattle.project.specs.Raises.{raise_cause}
 
 -- the outcome of a raise that leaves the rows `rows`
 abbrev pub raise_outcome : State → List ModuleVersion → Result (Unit {0}) NotRaised → Outcome

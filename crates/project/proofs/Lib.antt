@@ -5,3 +5,4 @@ pub mod Insides
 pub mod Lists
 pub mod Reading
 pub mod Lowering
+pub mod Fitting

@@ -35,18 +35,18 @@ pub asked_is : (b d : Row) (text : Bytes) → asked Project (replicate 256 b) (r
 asked_is b d text = ap₂ (λ i j. cond (leb 256 i && leb 32 j) (M.reading 256 text) (M.unread R.slice_too_short 0)) (length-replicate 256 b) (length-replicate 32 d)
 
 -- the rows in front of the blanks
-front : (before after : List Row) (n k : ℕ) (xs : List ModuleVersion) → Left before after xs → n ≡ length xs → k ≡ n → map row_names (take k after) ≡ xs
-front before after n k xs e p q =
-    ap (λ j. map row_names (take j after)) (q ∙ p) ∙ map_take (length xs) after ∙ ap (take (length xs)) e
+front : (before after : List Row) (n : ℕ) (xs : List ModuleVersion) → Left before after xs → n ≡ length xs → map row_names (take n after) ≡ xs
+front before after n xs e p =
+    ap (λ j. map row_names (take j after)) p ∙ map_take (length xs) after ∙ ap (take (length xs)) e
     ∙ take-append-le (length xs) xs (replicate (length before - length xs) blank) (omega arith) ∙ take_all (length xs) xs (omega arith)
 
 -- it is taken over as a load does it
-pub taken_over : (s : State) (r : M.Reading) (main : Bytes) (n k i j : ℕ) (before after before' after' : List Row)
-    → Ok (record { main = main; required = n; excluded = k }) ≡ counted r → Left before after (require_rows r) → Left before' after' (exclude_rows r) → i ≡ n → j ≡ k
-    → accepts (record { main = main; rows = table (map row_names (take i after)); exclusions = exclusion_table (map row_names (take j after')) }) ≡ loaded s r
-taken_over s (M.manifest t) main n k i j before after before' after' e p q x y =
+pub taken_over : (s : State) (r : M.Reading) (main : Bytes) (n k : ℕ) (before after before' after' : List Row)
+    → Ok (record { main = main; required = n; excluded = k }) ≡ counted r → Left before after (require_rows r) → Left before' after' (exclude_rows r)
+    → accepts (record { main = main; rows = table (map row_names (take n after)); exclusions = exclusion_table (map row_names (take k after')) }) ≡ loaded s r
+taken_over s (M.manifest t) main n k before after before' after' e p q =
     let both : ◌≡◌ {A = Counts} (record { main = main; required = n; excluded = k }) (record { main = t.main; required = length t.requires; excluded = length t.excludes }) = cc in
-    let rows = front before after n i t.requires p (ap (λ (c : Counts). c.required) both) x in
-    let excludes = front before' after' k j t.excludes q (ap (λ (c : Counts). c.excluded) both) y in
+    let rows = front before after n t.requires p (ap (λ (c : Counts). c.required) both) in
+    let excludes = front before' after' k t.excludes q (ap (λ (c : Counts). c.excluded) both) in
     λ h. accepts (record { main = (both h).main; rows = table (rows h); exclusions = exclusion_table (excludes h) })
-taken_over s (M.unread c l) main n k i j before after before' after' e p q x y = let z : ◌≡◌ {A = ℕ} 0 1 = cc in absurd (omega arith)
+taken_over s (M.unread c l) main n k before after before' after' e p q = let z : ◌≡◌ {A = ℕ} 0 1 = cc in absurd (omega arith)

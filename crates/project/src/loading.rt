@@ -27,10 +27,7 @@ fn exclusions_of(rows: &[Row]) -> Exclusions
     requires { length rows.now ≤ 32 }
     ensures value { exclusion_names result ≡ exclusion_table (map row_names rows.now) }
 {
-    match Exclusions::of(rows) {
-        Some(exclusions) => exclusions,
-        None => unreachable(),
-    }
+    Exclusions::of(rows).unwrap()
 }
 
 // Reads a text of at most 256 require rows and 32 exclude rows, or says why and at which line it is refused.
@@ -39,14 +36,8 @@ pub fn read_project(text: &[u8]) -> Result<Loaded, Refusal>
 {
     let mut required = [Row::blank(); 256];
     let mut excluded = [Row::blank(); 32];
-    match read(text, Owner::Project, &mut required, &mut excluded) {
-        Ok(manifest) => {
-            let rows = manifest.required;
-            let main = MainModule::of(manifest.main, &required[0..rows]);
-            let exclusion_rows = manifest.excluded;
-            let exclusions = exclusions_of(&excluded[0..exclusion_rows]);
-            Ok(Loaded { main, exclusions })
-        }
-        Err(refusal) => Err(refusal),
-    }
+    let manifest = read(text, Owner::Project, &mut required, &mut excluded)?;
+    let main = MainModule::of(manifest.main, &required[..manifest.required]);
+    let exclusions = exclusions_of(&excluded[..manifest.excluded]);
+    Ok(Loaded { main, exclusions })
 }

@@ -1,26 +1,18 @@
 -- One call after another: what a turn of a run adds. Assumes nothing.
-use Rattle.std.proofs.Common.{◌≡◌, ℕ, suc, ◌+◌, ◌<◌, ◌≤◌, min, List, [], ◌∷◌, ◌++◌, map, length, get_or, take, drop, set, Some, Option, sym, refl, ap, ◌∙◌, subst, ap₂, arith, length-append, length-set}
+use Rattle.std.proofs.Common.{◌≡◌, ℕ, suc, ◌+◌, ◌<◌, List, [], ◌∷◌, ◌++◌, map, length, get_or, take, drop, set, Some, Option, sym, refl, ap, ◌∙◌, subst, ap₂, arith, length-append, length-set}
 use lib.ListN.{length-map}
 use lib.Seq.{take-set-le}
 use Rattle.std.specs.Option.{option_map}
-use Rattle.std.proofs.ByRecursion.{All-take}
+use Rattle.rules.proofs.Each.{each_taken}
 use Rattle.std.proofs.lemmas.List.{take_more, get_or-set_same, map_push, drop-set-lt, drop-drop, length-take-le}
 use Rattle.rules.specs.Sources.{Meaning, Lawful}
 use Rattle.rules.specs.Projects.{State}
 use Rattle.rules.specs.Slices.{Lent, Slices}
 use Rattle.rules.specs.Calls as R
 use Rattle.std.specs.List.{AllByRecursion}
-use Rattle.rules.specs.Orders.{Bytes}
-use Rattle.rules.specs.Manifests as M
-use Rattle.rules.proofs.Readings.{well_formed}
 use Rattle.rules.specs.Runs.{after, fresh, InBounds}
 use Rattle.runs.specs.Law.{leaves, replies, slices_after, RunsBy}
-use Rattle.runs.specs.Parts.{part_of}
-use Rattle.runs.specs.Told.{call_of, listing_call_of, reply_told, ToldIn}
-use Rattle.runs.specs.declared.calls.Call.{Call}
-use Rattle.runs.specs.declared.calls.Call.TheVariants.{Load, Raise, Drop, Exclude, List as Lists}
-use Rattle.runs.specs.declared.calls.ListingCall.{ListingCall}
-use Rattle.runs.specs.declared.calls.ListingCall.TheVariants.{Any, Lower}
+use Rattle.runs.specs.Told.{reply_told, ToldIn}
 use Rattle.runs.specs.declared.calls.Reply.{Reply}
 use Rattle.runs.proofs.Making.{after_more, law_at}
 
@@ -71,9 +63,6 @@ module _ {C : Type 0} (f : Lent → C → R.Call) (m : Meaning) (s : State) (n :
     pub slices : sl ≡ slices_after m s (map (f n) (take i asked)) b
     pub told : ToldIn before rs (replies m s (map (f n) (take i asked)))
 
-  pub ran_none : RanTo 0 m s b before
-  ran_none = record { same = refl; state = refl; slices = refl; told = record { front = refl; behind = refl } }
-
   module _ (i : ℕ) (pile pile' : Meaning) (t t' : State) (sl sl' : Slices) (rs : List (Option Reply)) (r : Reply) (here : Lent) (x : C) where
     -- one call more
     pub ran_more : RanTo i pile t sl rs → here ≡ n → i < length asked → x ≡ get_or asked i x → i < length rs → pile' ≡ pile
@@ -93,22 +82,6 @@ module _ {C : Type 0} (f : Lent → C → R.Call) (m : Meaning) (s : State) (n :
         more : made i ++ f n x ∷ [] ≡ made (i + 1)
         more = sym (map_push (f n) (take i asked) x) ∙ ap (map (f n)) (ap (λ y. take i asked ++ y ∷ []) read ∙ sym (take_more asked i x in_list))
 
--- what is read is in bounds
-read_in_bounds : (text : Bytes) (r : M.Reading) → M.reading 256 text ≡ r → InBounds (R.load r)
-read_in_bounds text (M.manifest t) e = let few = (well_formed 256 text t e).0 in (few.require_rows, few.exclude_rows)
-read_in_bounds text (M.unread c k) e = tt
-
-pub in_bounds : (texts : Bytes) (n : Lent) (c : Call) → InBounds (call_of texts n c)
-in_bounds texts n (Load p) = read_in_bounds (part_of texts p.start p.end) (M.reading 256 (part_of texts p.start p.end)) refl
-in_bounds texts n (Raise x) = tt
-in_bounds texts n (Drop p) = tt
-in_bounds texts n (Exclude x) = tt
-in_bounds texts n Lists = tt
-
-pub listing_in_bounds : (texts : Bytes) (n : Lent) (c : ListingCall) → InBounds (listing_call_of texts n c)
-listing_in_bounds texts n (Any c) = in_bounds texts n c
-listing_in_bounds texts n (Lower x) = tt
-
 -- calls that are told so are in bounds, if each is
 pub all_in_bounds : {C : Type 0} (f : C → R.Call) → ((c : C) → InBounds (f c)) → (cs : List C) → AllByRecursion InBounds (map f cs)
 all_in_bounds f each [] = tt
@@ -116,8 +89,4 @@ all_in_bounds f each (c ∷ cs) = (each c, all_in_bounds f each cs)
 
 -- the whole run, on a fresh project
 pub runs_by : (m : Meaning) → Lawful m → (cs : List R.Call) → AllByRecursion InBounds cs → (t : State) (b sl : Slices) → t ≡ after m fresh cs → sl ≡ slices_after m fresh cs b → RunsBy m cs t b sl
-runs_by m law cs bounds t b sl p q = record { changed = p; written = q; law = λ i l. law_at m law (take i cs) (All-take InBounds i cs bounds) }
-
--- as many calls as there are places for replies
-pub within : (a b n : ℕ) → n ≡ min a b → (n ≤ a) × (n ≤ b)
-within a b n e = (omega arith, omega arith)
+runs_by m law cs bounds t b sl p q = record { changed = p; written = q; law = λ i l. law_at m law (take i cs) (each_taken InBounds i cs bounds) }

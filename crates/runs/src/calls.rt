@@ -1,24 +1,13 @@
-// Calls as values, and what is replied to them. The texts that loads read are lent in one slice beside the calls, of which a load names a part: a slice
-// of calls cannot hold references beside values that are well formed by their type.
-ghost use Rattle.std.specs.Prelude.{◌≡◌};
-ghost use Rattle.runs.specs.Parts.{part_of};
-
+// Calls as values, and what is replied to them.
 use causes::refusal::Refusal;
 use modules::rows::ModuleVersion;
 use names::path::Path;
 use walks::counts::Counts;
 
-// A part of the texts: the bytes from `start` to before `end`.
+// What is asked of a project over any source. A load lends the text that it reads.
 #[derive(Clone, Copy)]
-pub struct Part {
-    pub start: usize,
-    pub end: usize,
-}
-
-// What is asked of a project over any source.
-#[derive(Clone, Copy)]
-pub enum Call {
-    Load(Part),
+pub enum Call<'a> {
+    Load(&'a [u8]),
     Raise(ModuleVersion),
     Drop(Path),
     Exclude(ModuleVersion),
@@ -27,8 +16,8 @@ pub enum Call {
 
 // What is asked of a project over a source that can list.
 #[derive(Clone, Copy)]
-pub enum ListingCall {
-    Any(Call),
+pub enum ListingCall<'a> {
+    Any(Call<'a>),
     Lower(ModuleVersion),
 }
 
@@ -38,19 +27,4 @@ pub enum Reply {
     // accepted, with how many places and rows were written
     Counted(Counts),
     Refused(Refusal),
-}
-
-impl Part {
-    // The bytes of this part; of one that does not lie in the texts, none.
-    pub fn of<'a>(&self, texts: &'a [u8]) -> &'a [u8]
-        ensures value { result.now ≡ part_of texts.now self.now.start self.now.end }
-    {
-        let start = self.start;
-        let end = self.end;
-        if start <= end && end <= texts.len() {
-            &texts[start..end]
-        } else {
-            &texts[0..0]
-        }
-    }
 }

@@ -4,5 +4,5 @@
 
 pub mod calls;
 pub mod door;
-pub mod listing;
+pub mod replies;
 pub mod run;

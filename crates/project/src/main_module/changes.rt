@@ -7,7 +7,9 @@ ghost use Rattle.rules.specs.Texts.{every};
 ghost use Rattle.names.specs.Paths.{path_bytes};
 ghost use Rattle.modules.specs.Rows.{row_names, names_of};
 ghost use Rattle.modules.specs.Tables.{requirement_names};
+ghost use Rattle.causes.specs.Told.{cause_of as cause_told};
 ghost use Rattle.project.specs.States.{main_state, changed};
+ghost use Rattle.project.specs.Raises.{raise_cause};
 
 use super::MainModule;
 use causes::cause::Cause;
@@ -17,6 +19,17 @@ use modules::requirements::raises::NotRaised;
 use modules::rows::{ModuleVersion, Row};
 use names::path::Path;
 
+// Why a row was not raised.
+// Kept: no From, since neither type is of this crate.
+fn cause_of(refused: NotRaised) -> Cause
+    ensures value { cause_told result ≡ raise_cause refused }
+{
+    match refused {
+        NotRaised::NotHigher => Cause::NothingToChange,
+        NotRaised::NoRoom => Cause::TableFull,
+    }
+}
+
 impl MainModule {
     // A path with these rows, of each path the highest.
     pub(crate) fn of(path: Path, rows: &[Row]) -> MainModule
@@ -24,9 +37,9 @@ impl MainModule {
         ensures path { result.path ≡ path }
         ensures value { requirement_names result.requirements ≡ table (map row_names rows.now) }
     {
-        match Requirements::of(rows) {
-            Some(requirements) => MainModule { path, requirements },
-            None => unreachable(),
+        MainModule {
+            path,
+            requirements: Requirements::of(rows).unwrap(),
         }
     }
 
@@ -34,21 +47,18 @@ impl MainModule {
     pub fn raise(&mut self, of: &ModuleVersion) -> Result<(), Refusal>
         ensures value { (es : List Names) → changed result (main_state self.new es) ≡ raised (main_state self.old es) (names_of of.now) (row_at (names_of of.now).path (main_state self.old es).rows) }
     {
-        match self.requirements.raise(of.row()) {
-            Ok(()) => Ok(()),
-            Err(NotRaised::NotHigher) => Err(Refusal::at(Cause::NothingToChange, 0)),
-            Err(NotRaised::NoRoom) => Err(Refusal::at(Cause::TableFull, 0)),
-        }
+        self.requirements.raise(of.row()).map_err(cause_of)?;
+        Ok(())
     }
 
     // Takes the row of a path out.
     pub fn drop_row(&mut self, path: &Path) -> Result<(), Refusal>
         ensures value { (es : List Names) → changed result (main_state self.new es) ≡ dropped (main_state self.old es) (path_bytes path.now) (row_at (path_bytes path.now) (main_state self.old es).rows) }
     {
-        match self.requirements.remove(&path.plain()) {
-            Some(_) => Ok(()),
-            None => Err(Refusal::at(Cause::NothingToChange, 0)),
-        }
+        self.requirements
+            .remove(&path.plain())
+            .ok_or(Cause::NothingToChange)?;
+        Ok(())
     }
 
     // Other rows in the place of those that there are.

@@ -21,14 +21,10 @@ impl<S: Source> Project<S> {
         ensures value { changed result (state_of self.new) ≡ does (pile_of S.Source.meaning self.old) (state_of self.old) (load_call (reading 256 text.now)) }
         ensures same { self.new.layer.below ≡ self.old.layer.below }
     {
-        match read_project(text) {
-            Ok(loaded) => {
-                self.main = loaded.main;
-                self.layer.replace_exclusions(loaded.exclusions);
-                Ok(())
-            }
-            Err(refusal) => Err(refusal),
-        }
+        let loaded = read_project(text)?;
+        self.main = loaded.main;
+        self.layer.replace_exclusions(loaded.exclusions);
+        Ok(())
     }
 
     // Sets the row of a path to a higher version, or adds it.
@@ -52,9 +48,7 @@ impl<S: Source> Project<S> {
         ensures value { changed result (state_of self.new) ≡ does (pile_of S.Source.meaning self.old) (state_of self.old) (exclude_call (names_of of.now)) }
         ensures same { self.new.layer.below ≡ self.old.layer.below }
     {
-        match self.layer.exclude(of.row()) {
-            Ok(()) => Ok(()),
-            Err(cause) => Err(Refusal::at(cause, 0)),
-        }
+        self.layer.exclude(of.row())?;
+        Ok(())
     }
 }

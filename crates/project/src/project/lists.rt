@@ -23,11 +23,10 @@ impl<S: Source> Project<S> {
         ensures shown { SheetShown (pile_of S.Source.meaning self.old) (state_of self.old) (lent sheet.old list.old) (counted_as result (state_of self.new) sheet.new list.new) }
     {
         let start = self.main.start(self.layer.table());
-        let all = &start.rows[..];
         list_from(
             &mut self.layer,
             self.main.path(),
-            &all[0..start.count],
+            start.as_slice(),
             sheet,
             list,
         )

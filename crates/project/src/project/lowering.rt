@@ -34,21 +34,16 @@ impl<S: ListingSource> Project<S> {
         ensures shown { LoweringShown (pile_of S.Source.meaning self.old) (state_of self.old) (lent sheet.old list.old) (path_bytes path.now) (version_bytes version.now) (counted_as result (state_of self.new) sheet.new list.new) }
     {
         let start = self.main.start(self.layer.table());
-        let all = &start.rows[..];
-        match lower_from(
+        let lowered = lower_from(
             &mut self.layer,
             self.main.path(),
-            &all[0..start.count],
+            start.as_slice(),
             path,
             version,
             sheet,
             list,
-        ) {
-            Ok(lowered) => {
-                self.main.take_rows(lowered.kept);
-                Ok(lowered.counts)
-            }
-            Err(refusal) => Err(refusal),
-        }
+        )?;
+        self.main.take_rows(lowered.kept);
+        Ok(lowered.counts)
     }
 }

@@ -1,5 +1,5 @@
 -- What is read is well formed and in bounds, and is taken over. Assumes nothing.
-use Rattle.std.proofs.Common.{◌≡◌, ℕ, ◌-◌, map, length, take, replicate, ap, ◌∙◌, subst, arith}
+use Rattle.std.proofs.Common.{length, take, replicate, ap, ◌∙◌, subst, arith}
 use lib.ListN.{length-map}
 use Rattle.rules.specs.Names.{is_module_version}
 use Rattle.rules.specs.Texts.{every}
@@ -14,28 +14,25 @@ use Rattle.project.proofs.loading.read_project.Goals as goal
 
 pub of-main-requires : goal.of-main-requires
 of-main-requires c =
-    let n = c.in-Ok.manifest.required in
+    let n = c.in_ok-manifest.manifest.required in
     let after = c.read.new.required in
-    let ok = c.in-Ok.ensures.formed in
-    let n0 : n - 0 ≡ n = omega arith in
-    let same : map row_names (take (n - 0) after) ≡ names_read n after = ap (λ (k : ℕ). map row_names (take k after)) n0 ∙ map_take n after in
-    (omega (arith, ok.require_rows, ap length same, length-map (take (n - 0) after) row_names), ap (every is_module_version) same ∙ every_member is_module_version (names_read n after) ok.requires)
+    let ok = c.in_ok-manifest.ensures.formed in
+    let same = map_take n after in
+    (omega (arith, ok.require_rows, ap length same, length-map (take n after) row_names), ap (every is_module_version) same ∙ every_member is_module_version (names_read n after) ok.requires)
 
-pub returns-in-Ok : goal.returns-in-Ok
-returns-in-Ok c =
+pub returns : goal.returns
+returns c =
     let b = c.blank-required.result in
     let d = c.blank-excluded.result in
     let text = c.args.text.now in
-    let m = c.in-Ok.manifest in
-    let h = c.in-Ok.ensures in
+    let m = c.in_ok-manifest.manifest in
+    let h = c.in_ok-manifest.ensures in
     let is = asked_is b d text in
-    let r0 : m.required - 0 ≡ m.required = omega arith in
-    let x0 : m.excluded - 0 ≡ m.excluded = omega arith in
     record {
       value = λ s.
           (λ i. accepts (record { main = path_bytes (c.of-main.ensures.path i); rows = c.of-main.ensures.value i; exclusions = c.exclusions_of-exclusions.ensures.value i }))
-          ∙ taken_over s (reading 256 text) (path_bytes m.main) m.required m.excluded (m.required - 0) (m.excluded - 0) (replicate 256 b) c.read.new.required (replicate 32 d) c.read.new.excluded
+          ∙ taken_over s (reading 256 text) (path_bytes m.main) m.required m.excluded (replicate 256 b) c.read.new.required (replicate 32 d) c.read.new.excluded
           (h.value ∙ ap counted is)
           (subst (λ (r : Reading). Left (replicate 256 b) c.read.new.required (require_rows r)) is h.items.0)
-          (subst (λ (r : Reading). Left (replicate 32 d) c.read.new.excluded (exclude_rows r)) is h.items.1) r0 x0;
+          (subst (λ (r : Reading). Left (replicate 32 d) c.read.new.excluded (exclude_rows r)) is h.items.1);
     }

@@ -1,8 +1,8 @@
-use Rattle.std.proofs.Common.{refl}
+-- As the main module does. Assumes nothing.
 use Rattle.rules.specs.Calls.{does}
 use Rattle.modules.specs.Tables.{exclusion_names}
 use Rattle.project.proofs.project.Project.drop_row.Goals as goal
 
-pub returns : goal.returns
+pub returns-clause-value : goal.returns-clause-value
 unfolding does
-returns g c = record { value = c.drop_row.ensures.value (exclusion_names c.args.self.now.layer.exclusions); same = refl }
+returns-clause-value g c = c.drop_row.ensures.value (exclusion_names c.args.self.now.layer.exclusions)

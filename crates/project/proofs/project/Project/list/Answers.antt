@@ -1,10 +1,9 @@
 -- The walk goes over the exclude layer and changes nothing inside of it; what it gives is what the rules say, and so the promises hold of it. Assumes nothing.
-use Rattle.std.proofs.Common.{◌≡◌, ℕ, ◌-◌, map, take, sym, ap, ◌∙◌, subst, arith}
+use Rattle.std.proofs.Common.{◌≡◌, map, sym, ap, ◌∙◌, subst}
 use Rattle.rules.specs.Sources.{included, excluding}
 use Rattle.rules.specs.Calls.{Outcome}
 use Rattle.rules.proofs.Runs.{right_at}
-use Rattle.names.specs.Paths.{path_bytes}
-use Rattle.names.specs.declared.path.Path.{Path}
+use Rattle.names.specs.Paths.{Path, path_bytes}
 use Rattle.modules.specs.Rows.{names_of}
 use Rattle.modules.specs.Tables.{exclusion_names}
 use Rattle.modules.specs.declared.exclusions.Exclusions.{Exclusions}
@@ -24,12 +23,9 @@ returns g c =
     let s = state_of p in
     let es = exclusion_names p.layer.exclusions in
     let n = lent c.args.sheet.now c.args.list.now in
-    let k = c.start-start.result.count in
-    let k0 : k - 0 ≡ k = omega arith in
-    let start = map names_of (take (k - 0) c.start-start.result.rows) in
+    let start = map names_of c.as_slice.result.now in
     let e : start ≡ included es s.rows =
-    ap (λ (j : ℕ). map names_of (take j c.start-start.result.rows)) k0 ∙ c.start-start.ensures.value
-    ∙ ap (λ (t : Exclusions). included (exclusion_names t) s.rows) c.table.ensures.value in
+    ap (map names_of) c.as_slice.ensures.value ∙ c.start-start.ensures.value ∙ ap (λ (t : Exclusions). included (exclusion_names t) s.rows) c.table.ensures.value in
     let last = c.list.new.source in
     let inside = c.list.ensures.inside in
     let kept : main_state p.main (exclusion_names last.exclusions) ≡ s = ap (main_state p.main) (same_exclusions _ _ _ _ inside) in

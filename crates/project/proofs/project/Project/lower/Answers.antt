@@ -1,12 +1,12 @@
 -- The walks go over the exclude layer and change nothing inside of it; the kept rows become the rows, and what is left is what the rules say, so that
 -- the promises hold of it. Assumes nothing.
-use Rattle.std.proofs.Common.{◌≡◌, ℕ, ◌-◌, map, take, Ok, Err, sym, ap, ◌∙◌, subst, arith}
+use Rattle.std.proofs.Common.{◌≡◌, map, Ok, Err, sym, ap, ◌∙◌, subst}
+use Rattle.std.proofs.lemmas.Result.{err_from_is_err_and}
 use Rattle.rules.specs.Sources.{included, excluding}
 use Rattle.rules.specs.Projects.{State}
 use Rattle.rules.specs.Calls.{Outcome}
 use Rattle.rules.proofs.Runs.{right_at}
-use Rattle.names.specs.Paths.{path_bytes}
-use Rattle.names.specs.declared.path.Path.{Path}
+use Rattle.names.specs.Paths.{Path, path_bytes}
 use Rattle.versions.specs.Values.{version_bytes}
 use Rattle.modules.specs.Rows.{names_of}
 use Rattle.modules.specs.Tables.{requirement_names, exclusion_names}
@@ -22,10 +22,10 @@ use Rattle.project.proofs.Lowering.{lower_is}
 use Rattle.project.proofs.project.Project.lower.Goals as goal
 
 pub take_rows-requires : goal.take_rows-requires
-take_rows-requires g c = c.in-Ok.ensures.formed
+take_rows-requires g c = c.in_ok-lowered.ensures.formed
 
-pub returns-in-Ok : goal.returns-in-Ok
-returns-in-Ok g c =
+pub returns : goal.returns
+returns g c =
     let q = c.args.self.now in
     let m = g.S.Source.meaning q.layer.below in
     let s = state_of q in
@@ -33,21 +33,18 @@ returns-in-Ok g c =
     let p = path_bytes c.args.path.now in
     let v = version_bytes c.args.version.now in
     let n = lent c.args.sheet.now c.args.list.now in
-    let k = c.start-start.result.count in
-    let k0 : k - 0 ≡ k = omega arith in
-    let start = map names_of (take (k - 0) c.start-start.result.rows) in
+    let start = map names_of c.as_slice.result.now in
     let e : start ≡ included es s.rows =
-    ap (λ (j : ℕ). map names_of (take j c.start-start.result.rows)) k0 ∙ c.start-start.ensures.value
-    ∙ ap (λ (t : Exclusions). included (exclusion_names t) s.rows) c.table.ensures.value in
+    ap (map names_of) c.as_slice.ensures.value ∙ c.start-start.ensures.value ∙ ap (λ (t : Exclusions). included (exclusion_names t) s.rows) c.table.ensures.value in
     let last = c.lower.new.source in
-    let h = c.in-Ok.ensures in
+    let h = c.in_ok-lowered.ensures in
     let excluded = same_exclusions _ _ _ _ h.inside in
     let t : State = main_state c.take_rows.new.self (exclusion_names last.exclusions) in
     let path = c.path.ensures.value in
     let reply = h.value ∙ ap (λ (x : Path). (lowers_from (seen_by (path_bytes x) (excluding es m)) start p v n).reply) path in
     let kept = h.kept ∙ ap (λ (x : Path). (lowers_from (seen_by (path_bytes x) (excluding es m)) start p v n).kept) path in
     let slices = h.after ∙ ap (λ (x : Path). (lowers_from (seen_by (path_bytes x) (excluding es m)) start p v n).slices) path in
-    let value = lower_is m s t p v n start (reply_of (Ok c.in-Ok.lowered)) (kept_of (Ok c.in-Ok.lowered)) (slices_of c.lower.new.sheet c.lower.new.list) e (λ i. record { main = path_bytes (c.take_rows.ensures.same i); rows = requirement_names (c.take_rows.ensures.after i); exclusions = excluded i }) reply kept slices in
+    let value = lower_is m s t p v n start (reply_of (Ok c.in_ok-lowered.lowered)) (kept_of (Ok c.in_ok-lowered.lowered)) (slices_of c.lower.new.sheet c.lower.new.list) e (λ i. record { main = path_bytes (c.take_rows.ensures.same i); rows = requirement_names (c.take_rows.ensures.after i); exclusions = excluded i }) reply kept slices in
     let right = right_at m (g.S.Source.lawful q.layer.below) s in
     record {
       value = value;
@@ -57,8 +54,8 @@ returns-in-Ok g c =
       shown = subst (λ (o : Outcome). LoweringShown m s n p v o) (sym value) (right.lower_shown p v n);
     }
 
-pub returns-in-Err : goal.returns-in-Err
-returns-in-Err g c =
+pub returns-in_err-lowered : goal.returns-in_err-lowered
+returns-in_err-lowered g c =
     let q = c.args.self.now in
     let m = g.S.Source.meaning q.layer.below in
     let s = state_of q in
@@ -66,26 +63,24 @@ returns-in-Err g c =
     let p = path_bytes c.args.path.now in
     let v = version_bytes c.args.version.now in
     let n = lent c.args.sheet.now c.args.list.now in
-    let k = c.start-start.result.count in
-    let k0 : k - 0 ≡ k = omega arith in
-    let start = map names_of (take (k - 0) c.start-start.result.rows) in
+    let start = map names_of c.as_slice.result.now in
     let e : start ≡ included es s.rows =
-    ap (λ (j : ℕ). map names_of (take j c.start-start.result.rows)) k0 ∙ c.start-start.ensures.value
-    ∙ ap (λ (t : Exclusions). included (exclusion_names t) s.rows) c.table.ensures.value in
+    ap (map names_of) c.as_slice.ensures.value ∙ c.start-start.ensures.value ∙ ap (λ (t : Exclusions). included (exclusion_names t) s.rows) c.table.ensures.value in
     let last = c.lower.new.source in
-    let h = c.in-Err.ensures in
+    let h = c.in_err-lowered.ensures in
     let excluded = same_exclusions _ _ _ _ h.inside in
     let t : State = main_state q.main (exclusion_names last.exclusions) in
     let path = c.path.ensures.value in
     let reply = h.value ∙ ap (λ (x : Path). (lowers_from (seen_by (path_bytes x) (excluding es m)) start p v n).reply) path in
     let kept = h.kept ∙ ap (λ (x : Path). (lowers_from (seen_by (path_bytes x) (excluding es m)) start p v n).kept) path in
     let slices = h.after ∙ ap (λ (x : Path). (lowers_from (seen_by (path_bytes x) (excluding es m)) start p v n).slices) path in
-    let value = lower_is m s t p v n start (reply_of (Err c.in-Err.refusal)) (kept_of (Err c.in-Err.refusal)) (slices_of c.lower.new.sheet c.lower.new.list) e (ap (main_state q.main) excluded) reply kept slices in
+    let value = lower_is m s t p v n start (reply_of (Err c.in_err-lowered.field-0.0)) (kept_of (Err c.in_err-lowered.field-0.0)) (slices_of c.lower.new.sheet c.lower.new.list) e (ap (main_state q.main) excluded) reply kept slices in
     let right = right_at m (g.S.Source.lawful q.layer.below) s in
-    record {
+    let err = err_from_is_err_and c.from_residual.result c.from_residual.ensures.1 in
+    rw (err.1, err.2) (record {
       value = value;
       same = same_below _ _ _ _ h.inside;
       kept = subst (λ (o : Outcome). RowsKept m s n p v o) (sym value) (right.lower_kept p v n);
       accepted = subst (λ (o : Outcome). LoweredWhen m s n p v o) (sym value) (right.lower_accepted p v n);
       shown = subst (λ (o : Outcome). LoweringShown m s n p v o) (sym value) (right.lower_shown p v n);
-    }
+    })
