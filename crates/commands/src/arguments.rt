@@ -1,8 +1,7 @@
 // The sources that a command line names: `tree:FILE` and `shelf:FILE` are buffers, `dir:DIR` is a folder.
 ghost use Rattle.std.specs.Prelude.{◌≡◌};
 ghost use Rattle.std.specs.Option.{option_map};
-ghost use Rattle.tree.specs.Filenames.{behind};
-ghost use Rattle.commands.specs.Arguments.{named_of, source_named};
+ghost use Rattle.commands.specs.Arguments.{named_of, named_as, source_named};
 
 #[derive(Clone, Copy)]
 pub enum Form {
@@ -18,28 +17,19 @@ pub struct Argument<'a> {
     pub place: &'a str,
 }
 
-// What stands behind a text that a word begins with.
-fn behind_text<'a>(word: &'a str, text: &str) -> Option<&'a str>
-    ensures value { option_map (λ s. s.now) result ≡ behind text.now word.now }
+// A source of a form, where a word begins with the text that names the form.
+fn named<'a>(form: Form, text: &str, word: &'a str) -> Option<Argument<'a>>
+    ensures value { option_map named_of result ≡ named_as form text.now word.now }
 {
-    word.strip_prefix(text)
+    let place = word.strip_prefix(text)?;
+    Some(Argument { form, place })
 }
 
 // What a word names, if it names a source.
 pub fn argument_of<'a>(word: &'a str) -> Option<Argument<'a>>
     ensures value { option_map named_of result ≡ source_named word.now }
 {
-    if let Some(place) = behind_text(word, "tree:") {
-        let form = Form::Tree;
-        return Some(Argument { form, place });
-    }
-    if let Some(place) = behind_text(word, "shelf:") {
-        let form = Form::Shelf;
-        return Some(Argument { form, place });
-    }
-    if let Some(place) = behind_text(word, "dir:") {
-        let form = Form::Dir;
-        return Some(Argument { form, place });
-    }
-    None
+    named(Form::Tree, "tree:", word)
+        .or(named(Form::Shelf, "shelf:", word))
+        .or(named(Form::Dir, "dir:", word))
 }

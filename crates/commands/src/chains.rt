@@ -14,6 +14,7 @@ pub fn chain_to(heap: Global, sheet: &[Place], place: usize) -> Result<Vec<Row>,
 {
     let mut rows = Vec::new(heap);
     let mut at = place;
+    // Kept: turns that are counted, since the from numbers of a sheet that no walk wrote may go round.
     for _ in 0..sheet.len() {
         let Some(here) = sheet.get(at) else {
             return Ok(rows);

@@ -2,7 +2,6 @@
 // reads, writes and prints, of which no contract can speak.
 #![tactic(auto)]
 
-pub mod answers;
 pub mod arguments;
 pub mod chains;
 pub mod packing;

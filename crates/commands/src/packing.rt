@@ -20,6 +20,7 @@ pub enum NotPacked {
     NoMemory,
 }
 
+// Kept: by hand, since what a derive writes has no contract, and `refused` says of every error why it comes.
 impl From<AllocError> for NotPacked {
     ghost from_gives = { λ _ r. r ≡ NoMemory };
 
@@ -33,13 +34,13 @@ fn push_field(buffer: &mut Vec<u8>, tag: u8, bytes: &[u8]) -> Result<(), AllocEr
     requires { length bytes.now ≤ 65535 }
     ensures after { is_ok result ≡ true → buffer.new.items ≡ buffer.old.items ++ field tag bytes.now }
 {
-    let len = bytes.len();
-    let front = [tag, (len / 256) as u8, (len % 256) as u8];
-    buffer.extend_from_slice(&front)?;
+    let [high, low] = (bytes.len() as u16).to_be_bytes();
+    buffer.extend_from_slice(&[tag, high, low])?;
     buffer.extend_from_slice(bytes)
 }
 
 // Appends a file of a name and a body to a tree, if it fits.
+#[tactic(auto, using(crate::proofs::Reread::packing_right, crate::proofs::Packed::file_length))]
 pub fn push_file(buffer: &mut Vec<u8>, name: &[u8], body: &[u8]) -> Result<(), NotPacked>
     ensures after { is_ok result ≡ true → buffer.new.items ≡ buffer.old.items ++ file name.now body.now }
     ensures read { PackingRight }

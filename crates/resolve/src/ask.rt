@@ -1,9 +1,7 @@
 // `resolve show` and `resolve versions`: a question to a pile, and its answer or its refusal.
-use crate::compare::no_version;
-use crate::failure::Failure;
+use crate::failure::{Failure, naming};
 use crate::piles::{Task, with_pile};
-use crate::print::{Done, print_list, print_refusal, text_of};
-use commands::answers::refusal_of;
+use crate::print::{Ascii, print_rows};
 use modules::rows::{ModuleVersion, Row};
 use names::path::Path;
 use source::questions::ListingSource;
@@ -11,13 +9,12 @@ use versions::version::{PlainVersion, Version};
 
 // The path that a word is.
 pub fn path_of(rt: &HostRuntime, word: &str) -> Result<Path, Failure> {
-    match Path::check(word.as_bytes()) {
-        Some(path) => Ok(path),
-        None => {
-            let message = format!(in rt.alloc(); "no path: {word}")?;
-            Err(Failure::Message(message))
-        }
-    }
+    Path::check(word.as_bytes()).try_ok_or_else(|| naming(rt, word, Failure::NoPath))
+}
+
+// The version that a word is.
+pub fn version_of(rt: &HostRuntime, word: &str) -> Result<Version, Failure> {
+    Version::check(word.as_bytes()).try_ok_or_else(|| naming(rt, word, Failure::NoVersion))
 }
 
 // The module version that two words are.
@@ -27,74 +24,61 @@ pub fn module_version_of(
     version: &str,
 ) -> Result<ModuleVersion, Failure> {
     let path = path_of(rt, path)?;
-    match Version::check(version.as_bytes()) {
-        Some(version) => Ok(ModuleVersion { path, version }),
-        None => Err(no_version(rt, version)?),
-    }
+    let version = version_of(rt, version)?;
+    Ok(ModuleVersion { path, version })
 }
 
 // The requirement rows of a module version.
-pub fn show(
-    rt: &HostRuntime,
-    path: &str,
-    version: &str,
-    sources: &[String],
-) -> Result<Done, Failure> {
+pub fn show(rt: &HostRuntime, path: &str, version: &str, sources: &[&str]) -> Result<(), Failure> {
     let of = module_version_of(rt, path, version)?;
-    let mut task = Requirements { of };
-    with_pile(rt, sources, &mut task)
+    let rows = with_pile(rt, sources, &Requirements { of })?;
+    print_rows(rt, "", &rows)
 }
 
 // The versions of a path.
-pub fn versions(rt: &HostRuntime, path: &str, sources: &[String]) -> Result<Done, Failure> {
+pub fn versions(rt: &HostRuntime, path: &str, sources: &[&str]) -> Result<(), Failure> {
     let of = path_of(rt, path)?;
-    let mut task = Listing { of };
-    with_pile(rt, sources, &mut task)
+    let versions = with_pile(rt, sources, &Listing { of })?;
+    for version in &versions {
+        println!(rt; "{}", Ascii(version.as_bytes()))?;
+    }
+    Ok(())
 }
 
 // The question for the rows of a module version.
 #[derive(Clone, Copy)]
-pub struct Requirements {
+struct Requirements {
     of: ModuleVersion,
 }
 
 impl Task for Requirements {
-    fn run<S: ListingSource>(&mut self, rt: &HostRuntime, pile: &mut S) -> Result<Done, Failure> {
-        let mut rows = [Row::blank(); 64];
-        match pile.requirements(&self.of, &mut rows) {
-            Ok(found) => {
-                print_list(rt, &rows, found.count)?;
-                Ok(Done::Well)
-            }
-            Err(fault) => print_refusal(rt, refusal_of(fault)),
-        }
+    type Answer = Vec<Row>;
+
+    fn run<S: ListingSource>(&self, rt: &HostRuntime, pile: &mut S) -> Result<Vec<Row>, Failure> {
+        let mut rows = vec![in rt.alloc(); Row::blank(); 64]?;
+        let found = pile.requirements(&self.of, &mut rows)?;
+        rows.truncate(found.count);
+        Ok(rows)
     }
 }
 
 // The question for the versions of a path.
 #[derive(Clone, Copy)]
-pub struct Listing {
+struct Listing {
     of: Path,
 }
 
 impl Task for Listing {
-    fn run<S: ListingSource>(&mut self, rt: &HostRuntime, pile: &mut S) -> Result<Done, Failure> {
-        let mut versions = [PlainVersion::blank(); 64];
-        match pile.versions(&self.of, &mut versions) {
-            Ok(found) => print_versions(rt, &versions, found.count),
-            Err(fault) => print_refusal(rt, refusal_of(fault)),
-        }
-    }
-}
+    type Answer = Vec<PlainVersion>;
 
-fn print_versions(
-    rt: &HostRuntime,
-    versions: &[PlainVersion],
-    count: usize,
-) -> Result<Done, Failure> {
-    for version in versions.iter().take(count) {
-        let text = text_of(rt, version.as_bytes())?;
-        println!(rt; "{text}")?;
+    fn run<S: ListingSource>(
+        &self,
+        rt: &HostRuntime,
+        pile: &mut S,
+    ) -> Result<Vec<PlainVersion>, Failure> {
+        let mut versions = vec![in rt.alloc(); PlainVersion::blank(); 64]?;
+        let found = pile.versions(&self.of, &mut versions)?;
+        versions.truncate(found.count);
+        Ok(versions)
     }
-    Ok(Done::Well)
 }

@@ -1,7 +1,6 @@
 // The manifests below a folder, by their names from there on, ascending by their bytes. Folders are looked into at any depth, but not through
 // links; a link to a file counts as that file. A name that is no UTF-8 is none of a manifest.
-use crate::failure::Failure;
-use crate::print::about;
+use crate::failure::{Failure, about};
 use std::fs;
 use std::fs::DirEntry;
 use std::io::ErrorKind;
@@ -44,18 +43,12 @@ impl Found {
     // Adds what stands in a folder below the first one.
     fn look_into(&mut self, rt: &HostRuntime, dir: &str, folder: &str) -> Result<(), Failure> {
         let path = below(rt, dir, folder)?;
-        let entries = match fs::read_dir(rt, path.as_str()) {
-            Ok(entries) => entries,
-            Err(e) => return Err(about(rt, path.as_str(), e)?),
-        };
+        let entries = fs::read_dir(rt, &path).try_map_err(|e| about(rt, &path, e))?;
         for entry in entries {
             match entry {
                 Ok(entry) => self.add(rt, folder, &entry)?,
-                Err(e) => {
-                    if e.kind() != ErrorKind::InvalidFilename {
-                        return Err(about(rt, path.as_str(), e)?);
-                    }
-                }
+                Err(e) if e.kind() == ErrorKind::InvalidFilename => {}
+                Err(e) => return Err(about(rt, &path, e)?),
             }
         }
         Ok(())
@@ -68,12 +61,12 @@ pub fn manifests_below(rt: &HostRuntime, dir: &str) -> Result<Vec<String>, Failu
         manifests: Vec::new(rt.alloc()),
     };
     found.look_into(rt, dir, "")?;
-    // Nothing says that folders end.
+    // Kept: `while let` over the folders would have to be shown to end, and nothing says that folders do.
     for _ in 0..u64::MAX {
         let Some(folder) = found.folders.pop() else {
             break;
         };
-        found.look_into(rt, dir, folder.as_str())?;
+        found.look_into(rt, dir, &folder)?;
     }
     let Found {
         folders,

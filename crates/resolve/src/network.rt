@@ -1,15 +1,14 @@
 // `resolve tour`: the base network, embedded, taken through load, list, lower, exclude and a refusal, step by step and in words.
 use crate::ask::module_version_of;
 use crate::failure::{Failure, message};
-use crate::print::{Done, print_refusal, refusal_line, text_of};
-use buffers::buffer::{Buffer, Kind};
+use crate::listed::Listed;
+use crate::print::{first, print_rows};
+use crate::sources::Loaded;
+use buffers::buffer::Kind;
 use causes::refusal::Refusal;
 use commands::packing::push_file;
-use modules::rows::Row;
 use project::project::Project;
 use source::questions::{ListingSource, Source};
-use walks::counts::Counts;
-use walks::place::Place;
 
 // A file of the tree.
 #[derive(Clone, Copy)]
@@ -18,6 +17,7 @@ struct File {
     body: &'static str,
 }
 
+// The last is the one that is left out in the end.
 const FILES: [File; 5] = [
     File {
         name: "outfall/@v/v1.1.0.mod",
@@ -51,61 +51,45 @@ const TOLD: &str =
   trunk v1.2.0  requires outfall v1.1.0
   outfall v1.1.0 and outfall v1.3.0 require nothing";
 
-// The tree of the files but one.
-fn tree_without(rt: &HostRuntime, name: &str) -> Result<Vec<u8>, Failure> {
-    let mut buffer = Vec::new(rt.alloc());
-    for file in FILES {
-        if file.name != name {
-            let packed = push_file(&mut buffer, file.name.as_bytes(), file.body.as_bytes());
-            if packed.is_err() {
-                return Err(message(rt, "the network does not fit a tree")?);
-            }
-        }
+const INDENT: &str = "   ";
+
+// A network of some files, as a tree.
+fn network(rt: &HostRuntime, files: &[File]) -> Result<Loaded, Failure> {
+    let mut bytes = Vec::new(rt.alloc());
+    for file in files {
+        push_file(&mut bytes, file.name.as_bytes(), file.body.as_bytes()).try_map_err(|_| message(
+            rt,
+            "the network does not fit a tree",
+        ))?;
     }
-    Ok(buffer)
+    let kind = Kind::Tree;
+    Ok(Loaded { kind, bytes })
 }
 
 // What a call came to, in words.
 fn told(rt: &HostRuntime, answer: Result<(), Refusal>) -> Result<(), Failure> {
     match answer {
-        Ok(()) => println!(rt; "   accepted")?,
-        Err(refusal) => {
-            let line = refusal_line(rt, refusal)?;
-            println!(rt; "   {line}")?;
-        }
-    }
-    Ok(())
-}
-
-fn print_indented(rt: &HostRuntime, rows: &[Row], count: usize) -> Result<(), Failure> {
-    for row in rows.iter().take(count) {
-        let path = text_of(rt, row.path.as_bytes())?;
-        let version = text_of(rt, row.version.as_bytes())?;
-        println!(rt; "   {path} {version}")?;
+        Ok(()) => println!(rt; "{INDENT}accepted")?,
+        Err(refusal) => println!(rt; "{INDENT}{refusal}")?,
     }
     Ok(())
 }
 
 // The rows of a list without the main one, or why there is none.
-fn print_answer(
-    rt: &HostRuntime,
-    answer: Result<Counts, Refusal>,
-    list: &[Row],
-) -> Result<(), Failure> {
-    match answer {
-        Ok(counts) => match list.split_first() {
-            Some((_, others)) => print_indented(rt, others, counts.rows.saturating_sub(1)),
-            None => Ok(()),
-        },
-        Err(refusal) => told(rt, Err(refusal)),
-    }
-}
-
 fn show_list<S: ListingSource>(rt: &HostRuntime, project: &mut Project<S>) -> Result<(), Failure> {
-    let mut sheet = [Place::blank(); 256];
-    let mut list = [Row::blank(); 256];
-    let answer = project.list(&mut sheet, &mut list);
-    print_answer(rt, answer, &list)
+    let Listed {
+        mut sheet,
+        mut rows,
+    } = Listed::blank(rt)?;
+    match project.list(&mut sheet, &mut rows) {
+        Ok(counts) => {
+            if let [_, others @ ..] = first(&rows, counts.rows) {
+                print_rows(rt, INDENT, others)?;
+            }
+        }
+        Err(refusal) => println!(rt; "{INDENT}{refusal}")?,
+    }
+    Ok(())
 }
 
 fn load_and_list<S: ListingSource>(
@@ -130,11 +114,13 @@ fn lower_and_list<S: ListingSource>(
 ) -> Result<(), Failure> {
     println!(rt; "3. Lower outfall to v1.1.0. What is kept:")?;
     let outfall = module_version_of(rt, "outfall", "v1.1.0")?;
-    let mut sheet = [Place::blank(); 256];
-    let mut list = [Row::blank(); 256];
-    match project.lower(&outfall.path, &outfall.version, &mut sheet, &mut list) {
-        Ok(_) => print_indented(rt, project.requirements(), 256)?,
-        Err(refusal) => told(rt, Err(refusal))?,
+    let Listed {
+        mut sheet,
+        mut rows,
+    } = Listed::blank(rt)?;
+    match project.lower(&outfall.path, &outfall.version, &mut sheet, &mut rows) {
+        Ok(_) => print_rows(rt, INDENT, project.requirements())?,
+        Err(refusal) => println!(rt; "{INDENT}{refusal}")?,
     }
     println!(rt;
         "   trunk v1.0.0 had to go, since it asks for outfall v1.3.0, which is above the new ceiling; rain and trunk keep the versions they had on the list."
@@ -174,23 +160,14 @@ fn without_a_file<S: ListingSource>(
     Ok(())
 }
 
-pub fn show(rt: &HostRuntime) -> Result<Done, Failure> {
+pub fn show(rt: &HostRuntime) -> Result<(), Failure> {
     println!(rt; "{TOLD}")?;
-    let whole = tree_without(rt, "")?;
-    let mut pile = Buffer::empty();
-    if let Err(refusal) = pile.open(Kind::Tree, whole.as_slice()) {
-        return print_refusal(rt, refusal);
-    }
-    let mut project = Project::new(pile);
+    let whole = network(rt, &FILES)?;
+    let mut project = Project::new(whole.open()?);
     load_and_list(rt, &mut project)?;
     lower_and_list(rt, &mut project)?;
     exclude_and_list(rt, &mut project)?;
-    let broken = tree_without(rt, "trunk/@v/v1.2.0.mod")?;
-    let mut pile = Buffer::empty();
-    if let Err(refusal) = pile.open(Kind::Tree, broken.as_slice()) {
-        return print_refusal(rt, refusal);
-    }
-    let mut project = Project::new(pile);
-    without_a_file(rt, &mut project)?;
-    Ok(Done::Well)
+    let broken = network(rt, &FILES[..FILES.len() - 1])?;
+    let mut project = Project::new(broken.open()?);
+    without_a_file(rt, &mut project)
 }

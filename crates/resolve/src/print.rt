@@ -1,73 +1,51 @@
-// How the program says things: rows as PATH VERSION, and a refusal as one line of four numbers and the cause in words.
+// How the program says things: a text as it stands, a row as PATH VERSION, a place as PLACE PATH VERSION FROM.
 use crate::failure::Failure;
-use causes::refusal::Refusal;
 use modules::rows::Row;
-use std::io;
+use std::fmt;
 use walks::place::Place;
 
-// How a command ended that did not fail: well, or in a refusal, which is on standard error by then.
-#[derive(Clone, Copy)]
-pub enum Done {
-    Well,
-    Refused,
-}
-
 // Bytes as text; every byte that the library prints is ASCII.
-pub fn text_of(rt: &HostRuntime, bytes: &[u8]) -> Result<String, Failure> {
-    let mut text = String::new(rt.alloc());
-    for b in bytes {
-        text.push(*b as char)?;
+#[derive(Clone, Copy)]
+pub struct Ascii<'a>(pub &'a [u8]);
+
+impl fmt::Display for Ascii<'_> {
+    fn fmt<W: fmt::Write>(&self, f: &mut fmt::Formatter<W>) -> fmt::Result {
+        for b in self.0 {
+            f.write_char(*b as char)?;
+        }
+        Ok(())
     }
-    Ok(text)
 }
 
-// What went wrong with a file.
-pub fn about(rt: &HostRuntime, file: &str, e: io::Error) -> Result<Failure, Failure> {
-    let message = format!(in rt.alloc(); "{file}: {e}")?;
-    Ok(Failure::Message(message))
+// A row as its path and its version.
+#[derive(Clone, Copy)]
+pub struct Shown<'a>(pub &'a Row);
+
+impl fmt::Display for Shown<'_> {
+    fn fmt<W: fmt::Write>(&self, f: &mut fmt::Formatter<W>) -> fmt::Result {
+        let path = Ascii(self.0.path.as_bytes());
+        let version = Ascii(self.0.version.as_bytes());
+        write!(f, "{path} {version}")
+    }
 }
 
-// A row behind a word.
-pub fn print_row(rt: &HostRuntime, word: &str, row: &Row) -> Result<(), Failure> {
-    let path = text_of(rt, row.path.as_bytes())?;
-    let version = text_of(rt, row.version.as_bytes())?;
-    println!(rt; "{word} {path} {version}")?;
-    Ok(())
+// The first so many of some items.
+pub fn first<T>(items: &[T], count: usize) -> &[T] {
+    &items[..count.min(items.len())]
 }
 
-// A refusal as one line.
-pub fn refusal_line(rt: &HostRuntime, refusal: Refusal) -> Result<String, Failure> {
-    let number = refusal.cause.number();
-    let place = refusal.place;
-    let depth = refusal.depth;
-    let sheet_place = refusal.sheet_place;
-    let cause = refusal.cause;
-    Ok(format!(in rt.alloc(); "refused {number} {place} {depth} {sheet_place} {cause}")?)
-}
-
-pub fn print_refusal(rt: &HostRuntime, refusal: Refusal) -> Result<Done, Failure> {
-    let line = refusal_line(rt, refusal)?;
-    eprintln!(rt; "{line}")?;
-    Ok(Done::Refused)
-}
-
-// Rows as PATH VERSION, a line each.
-pub fn print_list(rt: &HostRuntime, rows: &[Row], count: usize) -> Result<(), Failure> {
-    for row in rows.iter().take(count) {
-        let path = text_of(rt, row.path.as_bytes())?;
-        let version = text_of(rt, row.version.as_bytes())?;
-        println!(rt; "{path} {version}")?;
+// Rows, a line each, behind the same words.
+pub fn print_rows(rt: &HostRuntime, words: &str, rows: &[Row]) -> Result<(), Failure> {
+    for row in rows {
+        println!(rt; "{words}{}", Shown(row))?;
     }
     Ok(())
 }
 
-// Places as PLACE PATH VERSION FROM, a line each.
-pub fn print_sheet(rt: &HostRuntime, sheet: &[Place], count: usize) -> Result<(), Failure> {
-    for (i, place) in sheet.iter().enumerate().take(count) {
-        let path = text_of(rt, place.row.path.as_bytes())?;
-        let version = text_of(rt, place.row.version.as_bytes())?;
-        let from = place.from;
-        println!(rt; "{i} {path} {version} {from}")?;
+// Places, a line each.
+pub fn print_sheet(rt: &HostRuntime, sheet: &[Place]) -> Result<(), Failure> {
+    for (i, place) in sheet.iter().enumerate() {
+        println!(rt; "{i} {} {}", Shown(&place.row), place.from)?;
     }
     Ok(())
 }

@@ -1,6 +1,6 @@
 // The library at work on a few embedded examples: checks, the order of versions, the newer of two texts, and a table.
 use crate::failure::Failure;
-use crate::print::{Done, text_of};
+use crate::print::Ascii;
 use modules::listing::Listing;
 use names::path::Path;
 use versions::texts::newer;
@@ -27,36 +27,37 @@ const MIXED: [&str; 9] = [
     "v1.0.0-rc.1",
 ];
 
-pub fn show(rt: &HostRuntime) -> Result<Done, Failure> {
-    show_paths(rt)?;
-    show_versions(rt)?;
+const PATH: &str =
+    "Is it a path? Elements joined by slashes, none empty, none with a dot first or last.";
+
+const VERSION: &str =
+    "Is it a version? v, three numbers, perhaps identifiers; no number with a zero in front.";
+
+pub fn show(rt: &HostRuntime) -> Result<(), Failure> {
+    show_checks(rt, PATH, &PATHS, |text| Path::check(text).is_some())?;
+    show_checks(
+        rt,
+        VERSION,
+        &VERSIONS,
+        |text| Version::check(text).is_some(),
+    )?;
     show_newer(rt, "v1.9.0", "v1.10.0")?;
     show_newer(rt, "latest", "v0.0.1")?;
-    show_table(rt)?;
-    Ok(Done::Well)
+    show_table(rt)
 }
 
-fn verdict(good: bool) -> &'static str {
-    if good { "yes" } else { "no" }
-}
-
-fn show_paths(rt: &HostRuntime) -> Result<(), Failure> {
-    println!(rt;
-        "Is it a path? Elements joined by slashes, none empty, none with a dot first or last."
-    )?;
-    for text in PATHS {
-        let answer = verdict(Path::check(text.as_bytes()).is_some());
-        println!(rt; "  {text}: {answer}")?;
-    }
-    Ok(())
-}
-
-fn show_versions(rt: &HostRuntime) -> Result<(), Failure> {
-    println!(rt;
-        "Is it a version? v, three numbers, perhaps identifiers; no number with a zero in front."
-    )?;
-    for text in VERSIONS {
-        let answer = verdict(Version::check(text.as_bytes()).is_some());
+// A question, and its answer for each text.
+fn show_checks<F: Fn(&[u8]) -> bool>(
+    rt: &HostRuntime,
+    question: &str,
+    texts: &[&str],
+    check: F,
+) -> Result<(), Failure>
+    requires { F.IsAlwaysCallable check }
+{
+    println!(rt; "{question}")?;
+    for text in texts {
+        let answer = if check(text.as_bytes()) { "yes" } else { "no" };
         println!(rt; "  {text}: {answer}")?;
     }
     Ok(())
@@ -76,21 +77,20 @@ fn show_newer(rt: &HostRuntime, a: &str, b: &str) -> Result<(), Failure> {
 // Puts versions into a table in whatever order they come, and prints it.
 fn show_table(rt: &HostRuntime) -> Result<(), Failure> {
     let mut listing = Listing::new();
-    let mut taken = 0u8;
-    for text in MIXED {
-        if let Some(version) = PlainVersion::of(text.as_bytes()) {
-            if listing.add(version).is_ok() {
-                taken = taken.saturating_add(1);
-            }
-        }
+    for version in MIXED
+        .iter()
+        .filter_map(|text| PlainVersion::of(text.as_bytes()))
+    {
+        // what is there already is refused
+        let _ = listing.add(version);
     }
     let offered = MIXED.len();
+    let taken = listing.as_slice().len();
     println!(rt;
         "A table of versions took {taken} of {offered} texts, one being there already, and holds them ascending:"
     )?;
     for version in listing.as_slice() {
-        let text = text_of(rt, version.as_bytes())?;
-        println!(rt; "  {text}")?;
+        println!(rt; "  {}", Ascii(version.as_bytes()))?;
     }
     Ok(())
 }

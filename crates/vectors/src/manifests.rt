@@ -11,10 +11,7 @@ use std::test::Fail;
 fn counts(text: &[u8], owner: Owner) -> Result<(usize, usize), Refusal> {
     let mut required = [Row::blank(); 256];
     let mut excluded = [Row::blank(); 32];
-    match read(text, owner, &mut required, &mut excluded) {
-        Ok(manifest) => Ok((manifest.required, manifest.excluded)),
-        Err(refusal) => Err(refusal),
-    }
+    read(text, owner, &mut required, &mut excluded).map(|m| (m.required, m.excluded))
 }
 
 fn refused(cause: Cause, place: usize) -> Result<(usize, usize), Refusal> {
@@ -31,39 +28,45 @@ pub(crate) fn repeated(heap: Global, line: &[u8], times: usize) -> Result<Vec<u8
     Ok(text)
 }
 
+// What such a text comes to.
+fn counts_of(
+    heap: Global,
+    line: &[u8],
+    times: usize,
+    owner: Owner,
+) -> Result<Result<(usize, usize), Refusal>, AllocError> {
+    let text = repeated(heap, line, times)?;
+    Ok(counts(&text, owner))
+}
+
+const REQUIRE: &[u8; 17] = b"require a v1.0.0\n";
+
+const EXCLUDE: &[u8; 17] = b"exclude a v1.0.0\n";
+
 #[test]
 fn rows_of_a_source(rt: HostRuntime) -> Result<(), Fail> {
-    let full = repeated(rt.alloc(), b"require a v1.0.0\n", 64)?;
-    assert_eq!(rt; counts(full.as_slice(), Owner::Source), Ok((64, 0)));
-    let over = repeated(rt.alloc(), b"require a v1.0.0\n", 65)?;
-    assert_eq!(rt;
-        counts(over.as_slice(), Owner::Source),
-        refused(Cause::RowTooMany, 66)
-    );
+    let full = counts_of(rt.alloc(), REQUIRE, 64, Owner::Source)?;
+    assert_eq!(rt; full, Ok((64, 0)));
+    let over = counts_of(rt.alloc(), REQUIRE, 65, Owner::Source)?;
+    assert_eq!(rt; over, refused(Cause::RowTooMany, 66));
     Ok(())
 }
 
 #[test]
 fn rows_of_a_project(rt: HostRuntime) -> Result<(), Fail> {
-    let full = repeated(rt.alloc(), b"require a v1.0.0\n", 256)?;
-    assert_eq!(rt; counts(full.as_slice(), Owner::Project), Ok((256, 0)));
-    let over = repeated(rt.alloc(), b"require a v1.0.0\n", 257)?;
-    assert_eq!(rt;
-        counts(over.as_slice(), Owner::Project),
-        refused(Cause::RowTooMany, 258)
-    );
+    let full = counts_of(rt.alloc(), REQUIRE, 256, Owner::Project)?;
+    assert_eq!(rt; full, Ok((256, 0)));
+    let over = counts_of(rt.alloc(), REQUIRE, 257, Owner::Project)?;
+    assert_eq!(rt; over, refused(Cause::RowTooMany, 258));
     Ok(())
 }
 
 #[test]
 fn exclude_rows(rt: HostRuntime) -> Result<(), Fail> {
-    let full = repeated(rt.alloc(), b"exclude a v1.0.0\n", 32)?;
-    assert_eq!(rt; counts(full.as_slice(), Owner::Source), Ok((0, 32)));
-    let over = repeated(rt.alloc(), b"exclude a v1.0.0\n", 33)?;
-    assert_eq!(rt;
-        counts(over.as_slice(), Owner::Project),
-        refused(Cause::RowTooMany, 34)
-    );
+    let full = counts_of(rt.alloc(), EXCLUDE, 32, Owner::Source)?;
+    assert_eq!(rt; full, Ok((0, 32)));
+    let over = counts_of(rt.alloc(), EXCLUDE, 33, Owner::Project)?;
+    assert_eq!(rt; over, refused(Cause::RowTooMany, 34));
     Ok(())
 }
 
@@ -71,14 +74,10 @@ fn exclude_rows(rt: HostRuntime) -> Result<(), Fail> {
 fn lengths(rt: HostRuntime) -> Result<(), Fail> {
     let mut text = repeated(rt.alloc(), b"\n", 32759)?;
     assert!(rt; text.len() == 32768);
-    assert_eq!(rt;
-        counts(text.as_slice(), Owner::Project),
-        Ok((0, 0)),
-        "32,768 bytes"
-    );
+    assert_eq!(rt; counts(&text, Owner::Project), Ok((0, 0)), "32,768 bytes");
     text.push(b'\n')?;
     assert_eq!(rt;
-        counts(text.as_slice(), Owner::Project),
+        counts(&text, Owner::Project),
         refused(Cause::TooLong, 0),
         "32,769 bytes"
     );
@@ -87,61 +86,37 @@ fn lengths(rt: HostRuntime) -> Result<(), Fail> {
 
 #[test]
 fn line_ends_and_comments(rt: HostRuntime) {
-    assert_eq!(rt;
-        counts(b"module m\r\nrequire a v1.0.0\r\n", Owner::Project),
-        Ok((1, 0)),
-        "CRLF"
-    );
-    assert_eq!(rt;
-        counts(b"module m // \"the end", Owner::Project),
-        Ok((0, 0)),
-        "a comment at the very end"
-    );
-    assert_eq!(rt;
-        counts(b"module m//n", Owner::Project),
-        Ok((0, 0)),
-        "a comment inside a word"
-    );
-    assert_eq!(rt;
-        counts(b"", Owner::Project),
-        refused(Cause::ModuleLine, 0),
-        "an empty text"
-    );
-    assert_eq!(rt;
-        counts(
-            b"module m\nrequire a v1.0.0 // x\n\nrequire b\n",
-            Owner::Project,
+    for (text, answer, why) in [
+        ("module m\r\nrequire a v1.0.0\r\n", Ok((1, 0)), "CRLF"),
+        (
+            "module m // \"the end",
+            Ok((0, 0)),
+            "a comment at the very end",
         ),
-        refused(Cause::WrongShape, 4),
-        "lines are counted past comments"
-    );
+        ("module m//n", Ok((0, 0)), "a comment inside a word"),
+        ("", refused(Cause::ModuleLine, 0), "an empty text"),
+        (
+            "module m\nrequire a v1.0.0 // x\n\nrequire b\n",
+            refused(Cause::WrongShape, 4),
+            "lines are counted past comments",
+        ),
+    ] {
+        assert_eq!(rt; counts(text.as_bytes(), Owner::Project), answer, "{why}");
+    }
 }
 
 #[test]
 fn refusals_in_their_order(rt: HostRuntime) {
-    assert_eq!(rt;
-        counts(b"module m\nrequire .a \"v1\"\n", Owner::Project),
-        refused(Cause::BadByte, 2)
-    );
-    assert_eq!(rt;
-        counts(b"module m\nrequire .a v1 x\n", Owner::Project),
-        refused(Cause::WrongShape, 2)
-    );
-    assert_eq!(rt;
-        counts(b"module m\nrequire .a v1\n", Owner::Project),
-        refused(Cause::BadPath, 2)
-    );
-    assert_eq!(rt;
-        counts(b"module m\nrequire a v1\n", Owner::Project),
-        refused(Cause::BadVersion, 2)
-    );
-    assert_eq!(rt;
-        counts(b"module m\nmodule m\n", Owner::Project),
-        refused(Cause::ModuleLine, 2)
-    );
-    assert_eq!(rt;
-        counts(b"retract (\n", Owner::Project),
-        refused(Cause::WrongShape, 0),
-        "an open block comes before no module line"
-    );
+    for (text, cause, line) in [
+        ("module m\nrequire .a \"v1\"\n", Cause::BadByte, 2),
+        ("module m\nrequire .a v1 x\n", Cause::WrongShape, 2),
+        ("module m\nrequire .a v1\n", Cause::BadPath, 2),
+        ("module m\nrequire a v1\n", Cause::BadVersion, 2),
+        ("module m\nmodule m\n", Cause::ModuleLine, 2),
+        // an open block comes before no module line
+        ("retract (\n", Cause::WrongShape, 0),
+    ] {
+        let given = counts(text.as_bytes(), Owner::Project);
+        assert_eq!(rt; given, refused(cause, line), "{text}");
+    }
 }

@@ -1,83 +1,91 @@
 // Which texts are paths and versions.
+use crate::asks::{Malformed, row};
 use modules::rows::{ModuleVersion, Row};
 use names::path::{Path, PlainPath};
 use names::text::Text;
 use std::test::Fail;
 use versions::version::{PlainVersion, Version};
 
-fn is_path(text: &[u8]) -> bool {
-    Path::check(text).is_some()
+fn is_path(text: &str) -> bool {
+    Path::check(text.as_bytes()).is_some()
 }
 
-fn is_version(text: &[u8]) -> bool {
-    Version::check(text).is_some()
+fn is_version(text: &str) -> bool {
+    Version::check(text.as_bytes()).is_some()
 }
 
 #[test]
 fn paths(rt: HostRuntime) {
-    assert!(rt; is_path(b"a"), "one byte");
-    assert!(rt; is_path(b"_"), "the blank path");
-    assert!(rt; is_path(b"Upper.Catchment/rain-2_~/v2"), "every mark");
-    assert!(rt; is_path(b"a..b/c"), "dots inside");
-    assert!(rt;
-        is_path(b"aaaaaaaa/bbbbbbb/cccccccc/ddddddd/eeeeeeee/fffff"),
-        "48 bytes"
-    );
+    for (text, why) in [
+        ("a", "one byte"),
+        ("_", "the blank path"),
+        ("Upper.Catchment/rain-2_~/v2", "every mark"),
+        ("a..b/c", "dots inside"),
+        (
+            "aaaaaaaa/bbbbbbb/cccccccc/ddddddd/eeeeeeee/fffff",
+            "48 bytes",
+        ),
+    ] {
+        assert!(rt; is_path(text), "{why}");
+    }
 }
 
 #[test]
 fn no_paths(rt: HostRuntime) {
-    assert!(rt; !is_path(b""), "empty");
-    assert!(rt;
-        !is_path(b"aaaaaaaa/bbbbbbb/cccccccc/ddddddd/eeeeeeee/ffffff"),
-        "49 bytes"
-    );
-    assert!(rt; !is_path(b"/a"), "slash first");
-    assert!(rt; !is_path(b"a/"), "slash last");
-    assert!(rt; !is_path(b"a//b"), "an empty element");
-    assert!(rt; !is_path(b".a"), "dot first");
-    assert!(rt; !is_path(b"a."), "dot last");
-    assert!(rt; !is_path(b"a/.b"), "dot first in an element");
-    assert!(rt; !is_path(b"a./b"), "dot last in an element");
-    assert!(rt; !is_path(b"a b"), "a space");
-    assert!(rt; !is_path(b"a+b"), "a plus");
-    assert!(rt; !is_path(b"\xc3\xa4"), "no ASCII");
+    for (text, why) in [
+        ("", "empty"),
+        (
+            "aaaaaaaa/bbbbbbb/cccccccc/ddddddd/eeeeeeee/ffffff",
+            "49 bytes",
+        ),
+        ("/a", "slash first"),
+        ("a/", "slash last"),
+        ("a//b", "an empty element"),
+        (".a", "dot first"),
+        ("a.", "dot last"),
+        ("a/.b", "dot first in an element"),
+        ("a./b", "dot last in an element"),
+        ("a b", "a space"),
+        ("a+b", "a plus"),
+        ("\u{e4}", "no ASCII"),
+    ] {
+        assert!(rt; !is_path(text), "{why}");
+    }
 }
 
 #[test]
 fn versions(rt: HostRuntime) {
-    assert!(rt; is_version(b"v0.0.0"));
-    assert!(rt; is_version(b"v1.2.3-beta.2"));
-    assert!(rt; is_version(b"v1.0.0--"), "an identifier of a hyphen");
-    assert!(rt; is_version(b"v1.0.0-0a"), "a zero in front of a word");
-    assert!(rt;
-        is_version(b"v123456789012345678901234567890.0.0"),
-        "a number of 30 digits"
-    );
-    assert!(rt;
-        is_version(b"v1.0.0-0123456789abcdefghijklmnopqrstuvw"),
-        "40 bytes"
-    );
+    for (text, why) in [
+        ("v0.0.0", "three zeros"),
+        ("v1.2.3-beta.2", "two identifiers"),
+        ("v1.0.0--", "an identifier of a hyphen"),
+        ("v1.0.0-0a", "a zero in front of a word"),
+        (
+            "v123456789012345678901234567890.0.0",
+            "a number of 30 digits",
+        ),
+        ("v1.0.0-0123456789abcdefghijklmnopqrstuvw", "40 bytes"),
+    ] {
+        assert!(rt; is_version(text), "{why}");
+    }
 }
 
 #[test]
 fn no_versions(rt: HostRuntime) {
-    assert!(rt; !is_version(b""), "empty");
-    assert!(rt; !is_version(b"1.0.0"), "no v");
-    assert!(rt; !is_version(b"v1.0"), "two numbers");
-    assert!(rt; !is_version(b"v1.0.0.0"), "four numbers");
-    assert!(rt; !is_version(b"v1.02.0"), "a zero in front");
-    assert!(rt; !is_version(b"v1.0.0-"), "an empty identifier");
-    assert!(rt;
-        !is_version(b"v1.0.0-01"),
-        "a zero in front of an identifier"
-    );
-    assert!(rt; !is_version(b"v1.0.0-a..b"), "an empty identifier inside");
-    assert!(rt; !is_version(b"v1.0.0+a"), "build metadata");
-    assert!(rt;
-        !is_version(b"v1.0.0-0123456789abcdefghijklmnopqrstuvwx"),
-        "41 bytes"
-    );
+    for (text, why) in [
+        ("", "empty"),
+        ("1.0.0", "no v"),
+        ("v1.0", "two numbers"),
+        ("v1.0.0.0", "four numbers"),
+        ("v1.02.0", "a zero in front"),
+        ("v1.0.0-", "an empty identifier"),
+        ("v1.0.0-01", "a zero in front of an identifier"),
+        ("v1.0.0-a..b", "an empty identifier inside"),
+        ("v1.0.0+a", "build metadata"),
+        ("v1.0.0-0123456789abcdefghijklmnopqrstuvwx", "41 bytes"),
+    ] {
+        assert!(rt; !is_version(text), "{why}");
+    }
 }
 
 #[test]
@@ -89,10 +97,8 @@ fn rows(rt: HostRuntime) -> Result<(), Fail> {
         Row::blank().check().is_some(),
         "the blank row is a module version"
     );
-    let Some(plain) = Row::of(b"..", b"v1.0.0") else {
-        return Err(Fail::new("a row claims nothing"));
-    };
-    assert!(rt; plain.check().is_none());
+    let plain = row(b"..", b"v1.0.0")?;
+    assert!(rt; plain.check().is_none(), "a row claims nothing");
     Ok(())
 }
 
@@ -110,9 +116,7 @@ fn texts(rt: HostRuntime) -> Result<(), Fail> {
         PlainPath::of(b"///").is_some(),
         "a plain path claims nothing"
     );
-    let Some(long) = PlainVersion::of(b"v1.0.0-0123456789abcdefghijklmnopqrstuvwx") else {
-        return Err(Fail::new("a plain version may have 41 bytes"));
-    };
-    assert!(rt; long.check().is_none());
+    let long = PlainVersion::of(b"v1.0.0-0123456789abcdefghijklmnopqrstuvwx").ok_or(Malformed)?;
+    assert!(rt; long.check().is_none(), "it may have 41 bytes");
     Ok(())
 }

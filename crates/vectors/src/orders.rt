@@ -1,92 +1,102 @@
 // How names stand to one another.
-use crate::tables::row;
+use crate::asks::{Malformed, row};
 use names::path::Path;
-use ordered::order::Ordered;
 use std::cmp::Ordering;
+use std::process::Abort;
 use std::test::Fail;
 use versions::texts::{compare, newer};
 use versions::version::Version;
 
 // Both ways of comparing, of texts and of values, and both ways round.
-fn below(a: &[u8], b: &[u8]) -> bool {
-    let Some(v) = Version::check(a) else {
-        return false;
-    };
-    let Some(w) = Version::check(b) else {
-        return false;
-    };
-    let texts = compare(a, b) == Ordering::Less && compare(b, a) == Ordering::Greater;
-    texts && v.compare(&w) == Ordering::Less && w.compare(&v) == Ordering::Greater
+fn check_below(rt: &impl Abort, a: &str, b: &str) -> Result<(), Fail> {
+    let v = Version::check(a.as_bytes()).ok_or(Malformed)?;
+    let w = Version::check(b.as_bytes()).ok_or(Malformed)?;
+    assert_eq!(rt;
+        compare(a.as_bytes(), b.as_bytes()),
+        Ordering::Less,
+        "{a} {b}"
+    );
+    assert_eq!(rt;
+        compare(b.as_bytes(), a.as_bytes()),
+        Ordering::Greater,
+        "{b} {a}"
+    );
+    assert_eq!(rt; v.cmp(&w), Ordering::Less, "{a} {b}");
+    assert_eq!(rt; w.cmp(&v), Ordering::Greater, "{b} {a}");
+    Ok(())
+}
+
+fn check_all_below(rt: &impl Abort, pairs: &[(&str, &str)]) -> Result<(), Fail> {
+    for (a, b) in pairs {
+        check_below(rt, a, b)?;
+    }
+    Ok(())
 }
 
 // The example of the SemVer document.
 #[test]
-fn semver(rt: HostRuntime) {
-    assert!(rt; below(b"v1.0.0-alpha", b"v1.0.0-alpha.1"));
-    assert!(rt; below(b"v1.0.0-alpha.1", b"v1.0.0-alpha.beta"));
-    assert!(rt; below(b"v1.0.0-alpha.beta", b"v1.0.0-beta"));
-    assert!(rt; below(b"v1.0.0-beta", b"v1.0.0-beta.2"));
-    assert!(rt; below(b"v1.0.0-beta.2", b"v1.0.0-beta.11"));
-    assert!(rt; below(b"v1.0.0-beta.11", b"v1.0.0-rc.1"));
-    assert!(rt; below(b"v1.0.0-rc.1", b"v1.0.0"));
-    assert!(rt; below(b"v1.0.0", b"v2.0.0"));
-    assert!(rt; below(b"v2.0.0", b"v2.1.0"));
-    assert!(rt; below(b"v2.1.0", b"v2.1.1"));
-    assert!(rt; below(b"v1.9.0", b"v1.10.0"));
+fn semver(rt: HostRuntime) -> Result<(), Fail> {
+    check_all_below(
+        &rt,
+        &[
+            ("v1.0.0-alpha", "v1.0.0-alpha.1"),
+            ("v1.0.0-alpha.1", "v1.0.0-alpha.beta"),
+            ("v1.0.0-alpha.beta", "v1.0.0-beta"),
+            ("v1.0.0-beta", "v1.0.0-beta.2"),
+            ("v1.0.0-beta.2", "v1.0.0-beta.11"),
+            ("v1.0.0-beta.11", "v1.0.0-rc.1"),
+            ("v1.0.0-rc.1", "v1.0.0"),
+            ("v1.0.0", "v2.0.0"),
+            ("v2.0.0", "v2.1.0"),
+            ("v2.1.0", "v2.1.1"),
+            ("v1.9.0", "v1.10.0"),
+        ],
+    )
 }
 
+// 29 and 30 digits, 30 digits of which the last differs, and numbers around 64 bits.
 #[test]
-fn long_numbers(rt: HostRuntime) {
-    assert!(rt;
-        below(
-            b"v99999999999999999999999999999.0.0",
-            b"v100000000000000000000000000000.0.0",
-        ),
-        "29 and 30 digits"
-    );
-    assert!(rt;
-        below(
-            b"v123456789012345678901234567890.0.0",
-            b"v123456789012345678901234567891.0.0",
-        ),
-        "30 digits, the last differs"
-    );
-    assert!(rt;
-        below(
-            b"v1.0.0-18446744073709551615",
-            b"v1.0.0-18446744073709551616",
-        ),
-        "around 64 bits"
-    );
+fn long_numbers(rt: HostRuntime) -> Result<(), Fail> {
+    check_all_below(
+        &rt,
+        &[
+            (
+                "v99999999999999999999999999999.0.0",
+                "v100000000000000000000000000000.0.0",
+            ),
+            (
+                "v123456789012345678901234567890.0.0",
+                "v123456789012345678901234567891.0.0",
+            ),
+            ("v1.0.0-18446744073709551615", "v1.0.0-18446744073709551616"),
+        ],
+    )
 }
 
 // Pairs of 40 bytes that differ only in the last.
 #[test]
-fn last_byte(rt: HostRuntime) {
-    assert!(rt;
-        below(
-            b"v1.0.0-abcdefghijklmnopqrstuvwxyz0123450",
-            b"v1.0.0-abcdefghijklmnopqrstuvwxyz0123451",
-        )
-    );
-    assert!(rt;
-        below(
-            b"v1.0.0-123456789012345678901234567890120",
-            b"v1.0.0-123456789012345678901234567890121",
-        )
-    );
-    assert!(rt;
-        below(
-            b"v1.0.0-a.b.c.d.e.f.g.h.i.j.k.l.m.n.o.p.0",
-            b"v1.0.0-a.b.c.d.e.f.g.h.i.j.k.l.m.n.o.p.A",
-        )
-    );
-    assert!(rt;
-        below(
-            b"v1.0.12345678901234567890123456789012345",
-            b"v1.0.12345678901234567890123456789012346",
-        )
-    );
+fn last_byte(rt: HostRuntime) -> Result<(), Fail> {
+    check_all_below(
+        &rt,
+        &[
+            (
+                "v1.0.0-abcdefghijklmnopqrstuvwxyz0123450",
+                "v1.0.0-abcdefghijklmnopqrstuvwxyz0123451",
+            ),
+            (
+                "v1.0.0-123456789012345678901234567890120",
+                "v1.0.0-123456789012345678901234567890121",
+            ),
+            (
+                "v1.0.0-a.b.c.d.e.f.g.h.i.j.k.l.m.n.o.p.0",
+                "v1.0.0-a.b.c.d.e.f.g.h.i.j.k.l.m.n.o.p.A",
+            ),
+            (
+                "v1.0.12345678901234567890123456789012345",
+                "v1.0.12345678901234567890123456789012346",
+            ),
+        ],
+    )
 }
 
 #[test]
@@ -106,26 +116,25 @@ fn no_versions(rt: HostRuntime) {
 
 #[test]
 fn the_newer(rt: HostRuntime) {
-    assert!(rt; newer(b"v1.9.0", b"v1.10.0") == b"v1.10.0".as_slice());
-    assert!(rt; newer(b"v1.10.0", b"v1.9.0") == b"v1.10.0".as_slice());
-    assert!(rt; newer(b"none", b"v0.0.0-0") == b"v0.0.0-0".as_slice());
-    assert!(rt;
-        newer(b"none", b"other") == b"none".as_slice(),
-        "the first, if neither is newer"
-    );
+    for (a, b, answer) in [
+        ("v1.9.0", "v1.10.0", "v1.10.0"),
+        ("v1.10.0", "v1.9.0", "v1.10.0"),
+        ("none", "v0.0.0-0", "v0.0.0-0"),
+        // the first, if neither is newer
+        ("none", "other", "none"),
+    ] {
+        let given = newer(a.as_bytes(), b.as_bytes());
+        assert!(rt; given == answer.as_bytes(), "{a} {b}");
+    }
 }
 
 #[test]
 fn paths(rt: HostRuntime) -> Result<(), Fail> {
-    let Some(a) = Path::check(b"rain") else {
-        return Err(Fail::new("a path"));
-    };
-    let Some(b) = Path::check(b"rain/2026") else {
-        return Err(Fail::new("a path"));
-    };
-    assert_eq!(rt; a.compare(&b), Ordering::Less, "a prefix is first");
-    assert_eq!(rt; b.compare(&a), Ordering::Greater);
-    assert_eq!(rt; a.compare(&a), Ordering::Equal);
+    let a = Path::check(b"rain").ok_or(Malformed)?;
+    let b = Path::check(b"rain/2026").ok_or(Malformed)?;
+    assert_eq!(rt; a.cmp(&b), Ordering::Less, "a prefix is first");
+    assert_eq!(rt; b.cmp(&a), Ordering::Greater);
+    assert_eq!(rt; a.cmp(&a), Ordering::Equal);
     Ok(())
 }
 
@@ -134,8 +143,8 @@ fn rows(rt: HostRuntime) -> Result<(), Fail> {
     let a = row(b"rain", b"v2.0.0")?;
     let b = row(b"rain", b"v10.0.0")?;
     let c = row(b"rain/2", b"v1.0.0")?;
-    assert_eq!(rt; a.compare(&b), Ordering::Less);
-    assert_eq!(rt; b.compare(&c), Ordering::Less);
-    assert_eq!(rt; c.compare(&a), Ordering::Greater);
+    assert_eq!(rt; a.cmp(&b), Ordering::Less);
+    assert_eq!(rt; b.cmp(&c), Ordering::Less);
+    assert_eq!(rt; c.cmp(&a), Ordering::Greater);
     Ok(())
 }

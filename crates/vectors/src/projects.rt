@@ -1,15 +1,14 @@
 // Projects: the worked networks, and what each call refuses at its edges. A refused call leaves the project as it was.
-use crate::asks::Malformed;
+use crate::asks::{module_version, row};
 use crate::shelves::push_field;
-use crate::tables::row;
 use buffers::buffer::{Buffer, Kind};
 use causes::cause::Cause;
 use causes::refusal::Refusal;
 use commands::packing::{NotPacked, push_file};
-use modules::rows::{ModuleVersion, Row};
+use modules::rows::Row;
 use project::project::Project;
-use runs::calls::{Call, Part, Reply};
-use runs::door::call;
+use runs::calls::{Call, Reply};
+use runs::door::Asked;
 use source::questions::Source;
 use std::alloc::{AllocError, Global};
 use std::process::Abort;
@@ -18,10 +17,6 @@ use walks::counts::Counts;
 use walks::place::Place;
 
 pub(crate) const UPPER: &[u8; 54] = b"module upper\nrequire trunk v1.0.0\nrequire rain v1.0.0\n";
-
-pub(crate) fn module_version(path: &[u8], version: &[u8]) -> Result<ModuleVersion, Malformed> {
-    ModuleVersion::check(path, version).ok_or(Malformed)
-}
 
 // The base network but for trunk v1.2.0.
 fn broken_network(heap: Global) -> Result<Vec<u8>, NotPacked> {
@@ -50,45 +45,60 @@ fn push_row(text: &mut Vec<u8>, row: &Row) -> Result<(), AllocError> {
     text.extend_from_slice(b"\n")
 }
 
-// The first rows as lines, and a mark for each behind them that is not blank.
-pub(crate) fn list_text(heap: Global, list: &[Row], count: usize) -> Result<Vec<u8>, AllocError> {
+// What stands in a slice, as a line.
+pub(crate) trait Told: PartialEq + Copy {
+    fn blank() -> Self;
+
+    fn push_to(&self, text: &mut Vec<u8>) -> Result<(), AllocError>;
+}
+
+impl Told for Row {
+    fn blank() -> Row {
+        Row::blank()
+    }
+
+    fn push_to(&self, text: &mut Vec<u8>) -> Result<(), AllocError> {
+        push_row(text, self)
+    }
+}
+
+// Behind the last digit of the place that it came from.
+impl Told for Place {
+    fn blank() -> Place {
+        Place::blank()
+    }
+
+    fn push_to(&self, text: &mut Vec<u8>) -> Result<(), AllocError> {
+        text.extend_from_slice(&[digit(self.from), b' '])?;
+        push_row(text, &self.row)
+    }
+}
+
+// The first items as lines, and a mark for each behind them that is not blank.
+fn text_of<T: Told>(heap: Global, items: &[T], count: usize) -> Result<Vec<u8>, AllocError> {
     let mut text = Vec::new(heap);
-    for (i, row) in list.iter().enumerate() {
+    let blank = T::blank();
+    for (i, item) in items.iter().enumerate() {
         if i < count {
-            push_row(&mut text, row)?;
-        } else if *row != Row::blank() {
-            text.extend_from_slice(b"!")?;
+            item.push_to(&mut text)?;
+        } else if *item != blank {
+            text.push(b'!')?;
         }
     }
     Ok(text)
 }
 
-// The same of places, each behind the last digit of the place that it came from.
-pub(crate) fn sheet_text(
+// The items are these lines, with blanks behind them.
+pub(crate) fn check_lines<T: Told>(
+    rt: &impl Abort,
     heap: Global,
-    sheet: &[Place],
-    count: usize,
-) -> Result<Vec<u8>, AllocError> {
-    let mut text = Vec::new(heap);
-    for (i, place) in sheet.iter().enumerate() {
-        if i < count {
-            text.extend_from_slice(&[b'0' + (place.from % 10) as u8, b' '])?;
-            push_row(&mut text, &place.row)?;
-        } else if *place != Place::blank() {
-            text.extend_from_slice(b"!")?;
-        }
-    }
-    Ok(text)
-}
-
-fn lines_in(text: &[u8]) -> usize {
-    let mut lines = 0usize;
-    for b in text {
-        if *b == b'\n' {
-            lines = lines.saturating_add(1);
-        }
-    }
-    lines
+    items: &[T],
+    lines: &[u8],
+) -> Result<(), Fail> {
+    let count = lines.iter().filter(|b| **b == b'\n').count();
+    let text = text_of(heap, items, count)?;
+    assert!(rt; text.as_slice() == lines);
+    Ok(())
 }
 
 // Lists in slices that held other rows. What they hold then is told as lines, with blanks behind them.
@@ -103,15 +113,9 @@ fn check_list<S: Source>(
     let used = row(b"used", b"v9.0.0")?;
     let mut sheet = vec![in heap; Place { row: used, from: 9 }; 256]?;
     let mut list = vec![in heap; used; 256]?;
-    assert_eq!(rt;
-        project.list(sheet.as_mut_slice(), list.as_mut_slice()),
-        answer
-    );
-    let places = sheet_text(heap, sheet.as_slice(), lines_in(sheet_lines))?;
-    assert!(rt; places.as_slice() == sheet_lines, "the sheet");
-    let rows = list_text(heap, list.as_slice(), lines_in(list_lines))?;
-    assert!(rt; rows.as_slice() == list_lines, "the list");
-    Ok(())
+    assert_eq!(rt; project.list(&mut sheet, &mut list), answer);
+    check_lines(rt, heap, sheet.as_slice(), sheet_lines)?;
+    check_lines(rt, heap, list.as_slice(), list_lines)
 }
 
 fn given(places: usize, rows: usize) -> Result<Counts, Refusal> {
@@ -121,9 +125,7 @@ fn given(places: usize, rows: usize) -> Result<Counts, Refusal> {
 #[test]
 fn base_network(rt: HostRuntime) -> Result<(), Fail> {
     let bytes = network(rt.alloc())?;
-    let mut pile = Buffer::empty();
-    pile.open(Kind::Tree, bytes.as_slice())?;
-    let mut project = Project::new(pile);
+    let mut project = Project::new(Buffer::open(Kind::Tree, &bytes)?);
     assert_eq!(rt; project.load(UPPER), Ok(()));
     check_list(
         &rt,
@@ -150,9 +152,7 @@ fn base_network(rt: HostRuntime) -> Result<(), Fail> {
 #[test]
 fn without_a_manifest(rt: HostRuntime) -> Result<(), Fail> {
     let bytes = broken_network(rt.alloc())?;
-    let mut pile = Buffer::empty();
-    pile.open(Kind::Tree, bytes.as_slice())?;
-    let mut project = Project::new(pile);
+    let mut project = Project::new(Buffer::open(Kind::Tree, &bytes)?);
     assert_eq!(rt; project.load(UPPER), Ok(()));
     let refusal = Refusal {
         cause: Cause::Missing,
@@ -183,9 +183,7 @@ fn ring(heap: Global) -> Result<Vec<u8>, NotPacked> {
 #[test]
 fn fresh_and_in_a_ring(rt: HostRuntime) -> Result<(), Fail> {
     let bytes = ring(rt.alloc())?;
-    let mut pile = Buffer::empty();
-    pile.open(Kind::Tree, bytes.as_slice())?;
-    let mut project = Project::new(pile);
+    let mut project = Project::new(Buffer::open(Kind::Tree, &bytes)?);
     check_list(
         &rt,
         rt.alloc(),
@@ -244,39 +242,30 @@ fn check_wide(
     paths: usize,
     answer: Result<Counts, Refusal>,
 ) -> Result<(), Fail> {
-    let mut pile = Buffer::empty();
-    pile.open(Kind::Shelf, shelf)?;
-    let mut project = Project::new(pile);
+    let mut project = Project::new(Buffer::open(Kind::Shelf, shelf)?);
     let text = lines(heap, b"module m\n", b"require ", paths)?;
-    assert_eq!(rt; project.load(text.as_slice()), Ok(()));
+    assert_eq!(rt; project.load(&text), Ok(()));
     let sheet = lines(heap, b"0 m v0.0.0\n", b"0 ", 255)?;
     let list = match answer {
         Ok(_) => lines(heap, b"m v0.0.0\n", b"", 255)?,
         Err(_) => Vec::new(heap),
     };
-    check_list(
-        rt,
-        heap,
-        &mut project,
-        answer,
-        sheet.as_slice(),
-        list.as_slice(),
-    )
+    check_list(rt, heap, &mut project, answer, &sheet, &list)
 }
 
 #[test]
 fn places_of_a_sheet(rt: HostRuntime) -> Result<(), Fail> {
-    let heap = rt.alloc();
     let refused = Err(Refusal::at(Cause::TooManyModuleVersions, 0));
+    let heap = rt.alloc();
     let mut shelf = wide_shelf(heap)?;
     // 256 are reached
-    check_wide(&rt, heap, shelf.as_slice(), 255, given(256, 256))?;
+    check_wide(&rt, heap, &shelf, 255, given(256, 256))?;
     // 257, all required by the main module
-    check_wide(&rt, heap, shelf.as_slice(), 256, refused)?;
+    check_wide(&rt, heap, &shelf, 256, refused)?;
     push_field(&mut shelf, b'R', b"q")?;
     push_field(&mut shelf, b'W', b"v1.0.0")?;
     // 257, the last required by the last place
-    check_wide(&rt, heap, shelf.as_slice(), 255, refused)
+    check_wide(&rt, heap, &shelf, 255, refused)
 }
 
 // A list in slices of so many places is refused, and both are blank then.
@@ -291,17 +280,16 @@ fn check_short<S: Source>(
     let mut sheet = vec![in heap; Place { row: used, from: 9 }; places]?;
     let mut list = vec![in heap; used; rows]?;
     assert_eq!(rt;
-        project.list(sheet.as_mut_slice(), list.as_mut_slice()),
+        project.list(&mut sheet, &mut list),
         Err(Refusal::at(Cause::SliceTooShort, 0))
     );
-    assert!(rt; sheet_text(heap, sheet.as_slice(), 0)?.is_empty());
-    assert!(rt; list_text(heap, list.as_slice(), 0)?.is_empty());
-    Ok(())
+    check_lines(rt, heap, sheet.as_slice(), b"")?;
+    check_lines(rt, heap, list.as_slice(), b"")
 }
 
 #[test]
 fn short_slices(rt: HostRuntime) -> Result<(), Fail> {
-    let mut project = Project::new(Buffer::empty());
+    let mut project = Project::new(Buffer::open(Kind::Tree, b"")?);
     check_short(&rt, rt.alloc(), &mut project, 255, 256)?;
     check_short(&rt, rt.alloc(), &mut project, 256, 255)?;
     check_short(&rt, rt.alloc(), &mut project, 300, 0)
@@ -326,11 +314,10 @@ fn check_calls<S: Source>(
     rt: &impl Abort,
     project: &mut Project<S>,
     calls: &[Call],
-    text: &[u8],
     replies: &[Reply],
 ) {
     for (asked, reply) in calls.iter().zip(replies) {
-        assert_eq!(rt; call(project, asked, text, &mut [], &mut []), *reply);
+        assert_eq!(rt; asked.make(project, &mut [], &mut []), *reply);
     }
 }
 
@@ -342,16 +329,15 @@ fn refused(cause: Cause, place: usize) -> Reply {
 fn full_tables(rt: HostRuntime) -> Result<(), Fail> {
     let heap = rt.alloc();
     let rows = lines(heap, b"module m\n", b"require ", 256)?;
-    let full = lines(heap, rows.as_slice(), b"exclude ", 32)?;
+    let full = lines(heap, &rows, b"exclude ", 32)?;
     let over = lines(heap, b"module n\n", b"require ", 257)?;
-    let end = over.len();
     let there = module_version(b"p000", b"v1.0.0")?;
     let new = module_version(b"q", b"v1.0.0")?;
-    let mut project = Project::new(Buffer::empty());
-    assert_eq!(rt; project.load(full.as_slice()), Ok(()));
+    let mut project = Project::new(Buffer::open(Kind::Tree, b"")?);
+    assert_eq!(rt; project.load(&full), Ok(()));
     let before = tables_text(heap, &project)?;
     let calls = [
-        Call::Load(Part { start: 0, end }),
+        Call::Load(&over),
         Call::Raise(there),
         Call::Raise(new),
         Call::Drop(new.path),
@@ -366,7 +352,7 @@ fn full_tables(rt: HostRuntime) -> Result<(), Fail> {
         refused(Cause::NothingToChange, 0),
         refused(Cause::TableFull, 0),
     ];
-    check_calls(&rt, &mut project, &calls, over.as_slice(), &replies);
+    check_calls(&rt, &mut project, &calls, &replies);
     let after = tables_text(heap, &project)?;
     assert!(rt; after.as_slice() == before.as_slice(), "it is as it was");
     let higher = module_version(b"p000", b"v1.0.1")?;
@@ -375,7 +361,7 @@ fn full_tables(rt: HostRuntime) -> Result<(), Fail> {
         Call::Drop(there.path),
         Call::Raise(new),
     ];
-    check_calls(&rt, &mut project, &calls, b"", &[Reply::Accepted; 3]);
+    check_calls(&rt, &mut project, &calls, &[Reply::Accepted; 3]);
     assert!(rt; project.requirements().len() == 256);
     Ok(())
 }

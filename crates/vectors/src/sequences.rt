@@ -1,10 +1,11 @@
 // A run over a source that cannot list: it needs no more than the first question.
-use crate::projects::{UPPER, list_text, module_version, network};
+use crate::asks::module_version;
+use crate::projects::{UPPER, check_lines, network};
 use buffers::buffer::{Buffer, Kind};
 use causes::cause::Cause;
 use causes::refusal::Refusal;
 use modules::rows::{ModuleVersion, Row};
-use runs::calls::{Call, Part, Reply};
+use runs::calls::{Call, Reply};
 use runs::run::run;
 use source::fault::{Fault, Found};
 use source::questions::Source;
@@ -36,13 +37,12 @@ fn counted(places: usize, rows: usize) -> Option<Reply> {
 fn without_listings(rt: HostRuntime) -> Result<(), Fail> {
     let heap = rt.alloc();
     let bytes = network(heap)?;
-    let mut below = Buffer::empty();
-    below.open(Kind::Tree, bytes.as_slice())?;
+    let below = Buffer::open(Kind::Tree, &bytes)?;
     let trunk = module_version(b"trunk", b"v1.2.0")?;
     let rain = module_version(b"rain", b"v1.0.0")?;
     let calls = [
         Call::List,
-        Call::Load(Part { start: 0, end: 54 }),
+        Call::Load(&UPPER[..54]),
         Call::List,
         Call::Exclude(trunk),
         Call::Exclude(trunk),
@@ -68,16 +68,17 @@ fn without_listings(rt: HostRuntime) -> Result<(), Fail> {
     let project = run(
         Unlisted { below },
         &calls,
-        UPPER,
-        sheet.as_mut_slice(),
-        list.as_mut_slice(),
+        &mut sheet,
+        &mut list,
         &mut replies,
     );
-    for (reply, other) in replies.iter().zip(expected.iter()) {
-        assert_eq!(rt; *reply, *other);
-    }
-    let rows = list_text(heap, list.as_slice(), 3)?;
-    assert!(rt; rows.as_slice() == b"upper v0.0.0\noutfall v1.3.0\ntrunk v1.0.0\n".as_slice());
+    assert!(rt; replies == expected);
+    check_lines(
+        &rt,
+        heap,
+        list.as_slice(),
+        b"upper v0.0.0\noutfall v1.3.0\ntrunk v1.0.0\n",
+    )?;
     assert!(rt;
         project.requirements().len() == 2,
         "there was no place for a ninth reply"

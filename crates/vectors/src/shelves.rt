@@ -1,5 +1,5 @@
 // Shelves at the edges of the rules: how many rows and versions, and every place where one may be cut.
-use crate::asks::{fault, nth_version, rows_of, versions_of};
+use crate::asks::{check_listings, check_nothing, nth_version, rows_of};
 use causes::cause::Cause;
 use causes::refusal::Refusal;
 use shelf::shelf::Shelf;
@@ -14,7 +14,7 @@ pub(crate) fn push_field(shelf: &mut Vec<u8>, tag: u8, bytes: &[u8]) -> Result<(
 }
 
 // A record of `a` at v1.0.0 with a row so many times.
-pub(crate) fn record_of(heap: Global, rows: usize) -> Result<Vec<u8>, AllocError> {
+fn record_of(heap: Global, rows: usize) -> Result<Vec<u8>, AllocError> {
     let mut shelf = Vec::new(heap);
     push_field(&mut shelf, b'M', b"a")?;
     push_field(&mut shelf, b'V', b"v1.0.0")?;
@@ -38,13 +38,12 @@ fn records_of(heap: Global, versions: u8) -> Result<Vec<u8>, AllocError> {
 #[test]
 fn rows_of_a_record(rt: HostRuntime) -> Result<(), Fail> {
     let full = record_of(rt.alloc(), 64)?;
-    let mut shelf = Shelf::empty();
-    assert_eq!(rt; shelf.open(full.as_slice()), Ok(()));
+    let mut shelf = Shelf::open(&full)?;
     assert_eq!(rt; rows_of(&mut shelf, b"a", b"v1.0.0")?, Ok(64));
     let over = record_of(rt.alloc(), 65)?;
     assert_eq!(rt;
-        shelf.open(over.as_slice()),
-        Err(Refusal::at(Cause::RowTooMany, 13 + 64 * 13)),
+        Shelf::open(&over).err(),
+        Some(Refusal::at(Cause::RowTooMany, 13 + 64 * 13)),
         "the 65th R"
     );
     assert_eq!(rt;
@@ -58,57 +57,31 @@ fn rows_of_a_record(rt: HostRuntime) -> Result<(), Fail> {
 #[test]
 fn versions_of_a_path(rt: HostRuntime) -> Result<(), Fail> {
     let full = records_of(rt.alloc(), 64)?;
-    let mut shelf = Shelf::empty();
-    assert_eq!(rt; shelf.open(full.as_slice()), Ok(()));
-    assert_eq!(rt; versions_of(&mut shelf, b"a")?, Ok(64));
     let over = records_of(rt.alloc(), 65)?;
-    assert_eq!(rt; shelf.open(over.as_slice()), Ok(()));
-    assert_eq!(rt;
-        versions_of(&mut shelf, b"a")?,
-        fault(Cause::TooManyToList, 0, 0)
-    );
-    assert_eq!(rt;
-        rows_of(&mut shelf, b"a", b"v0.6.4")?,
-        Ok(0),
-        "the 65th has its list"
-    );
-    Ok(())
+    check_listings(&rt, &mut Shelf::open(&full)?, &mut Shelf::open(&over)?)
 }
 
 #[test]
 fn nothing_on_it(rt: HostRuntime) -> Result<(), Fail> {
-    let mut shelf = Shelf::empty();
-    assert_eq!(rt; shelf.open(b""), Ok(()));
-    assert_eq!(rt;
-        rows_of(&mut shelf, b"a", b"v1.0.0")?,
-        fault(Cause::Missing, 0, 0)
-    );
-    assert_eq!(rt; versions_of(&mut shelf, b"a")?, Ok(0));
-    Ok(())
+    check_nothing(&rt, &mut Shelf::open(b"")?)
 }
 
 // Two records, one with a row. Its fields begin at 0, 4, 13, 17, 26 and 30.
 const SMALL: &[u8; 39] = b"M\0\x01aV\0\x06v1.0.0R\0\x01bW\0\x06v1.0.0M\0\x01bV\0\x06v1.0.0";
 
 // What opening the first bytes gives: a cut is told where its field begins, a missing field where the buffer ends.
-fn opening_of_first(n: usize) -> Result<(), Refusal> {
-    let mut place = 0;
-    for bound in [0usize, 4, 13, 17, 26, 30, 39] {
-        if bound <= n {
-            place = bound;
-        }
-    }
+fn opening_of_first(n: usize) -> Option<Refusal> {
+    let bounds = [0usize, 4, 13, 17, 26, 30, 39];
+    let place = bounds.iter().rfind(|bound| **bound <= n).copied();
     match n {
-        0 | 13 | 26 | 39 => Ok(()),
-        _ => Err(Refusal::at(Cause::DamagedBuffer, place)),
+        0 | 13 | 26 | 39 => None,
+        _ => Some(Refusal::at(Cause::DamagedBuffer, place.unwrap_or(0))),
     }
 }
 
 #[test]
 fn every_cut(rt: HostRuntime) {
-    let all = &SMALL[..];
     for n in 0..40 {
-        let mut shelf = Shelf::empty();
-        assert_eq!(rt; shelf.open(&all[0..n]), opening_of_first(n));
+        assert_eq!(rt; Shelf::open(&SMALL[..n]).err(), opening_of_first(n));
     }
 }

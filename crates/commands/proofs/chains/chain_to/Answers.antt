@@ -1,18 +1,8 @@
 -- There is no such place, it is the main one, or it leads on. Assumes nothing.
-use Rattle.std.proofs.Common.{◌≡◌, ℕ, ◌-◌, List, ◌++◌, map, length, vec_items, sym, ap₂, arith}
+use Rattle.std.proofs.Common.{length, vec_items, sym}
 use Rattle.std.proofs.lemmas.Bool.{ltb-false}
-use Rattle.rules.specs.Walks.{trail}
-use Rattle.modules.specs.Rows.{row_names}
-use Rattle.modules.specs.declared.rows.Row.{Row}
-use Rattle.walks.specs.Places.{place_of}
 use Rattle.commands.proofs.Trails.{ends_past, ends_at_main, goes_on, ends_spent}
 use Rattle.commands.proofs.chains.chain_to.Goals as goal
-
-pub loop-init : goal.loop-init
-loop-init c =
-    let sheet = c.args.sheet.now in
-    let z : length sheet - 0 ≡ length sheet = omega arith in
-    ap₂ (λ (xs : List Row) (k : ℕ). map row_names xs ++ trail k (map place_of sheet) c.args.place) c.new-rows.ensures.items z
 
 pub returns-in_default : goal.returns-in_default
 returns-in_default c =

@@ -5,7 +5,12 @@ use Rattle.std.specs.Option.{option_map}
 use Rattle.rules.specs.Orders.{Bytes}
 use Rattle.tree.specs.Filenames.{behind}
 use Rattle.tree.proofs.Spelled.{behind_told}
-use Rattle.commands.proofs.arguments.behind_text.Goals as goal
+use Rattle.commands.specs.Arguments.{Named}
+use Rattle.commands.specs.declared.arguments.Form.{Form}
+use Rattle.commands.proofs.arguments.named.Goals as goal
+
+abbrev in_form : Form → Bytes → Named
+in_form f p = record { form = f; place = p }
 
 -- as `strip_prefix` tells it of text
 text_behind : (s p : Bytes) (r : Option (Bor (List ℕ)))
@@ -14,5 +19,9 @@ text_behind : (s p : Bytes) (r : Option (Bor (List ℕ)))
 text_behind s p None h = behind_told s p None h
 text_behind s p (Some x) h = behind_told s p (Some x) (h.1.1 ∙ ap (λ t. p ++ t) (sym h.2))
 
+pub returns-in_err-place : goal.returns-in_err-place
+returns-in_err-place c =
+    rw c.from_residual.ensures (record { value = ap (option_map (in_form c.args.form)) (text_behind c.args.word.now c.args.text.now None c.in_err-place.ensures.cases) })
+
 pub returns : goal.returns
-returns c = record { value = text_behind c.args.word.now c.args.text.now _ c.strip_prefix.ensures.cases }
+returns c = record { value = ap (option_map (in_form c.args.form)) (text_behind c.args.word.now c.args.text.now (Some c.in_ok-place.place) c.in_ok-place.ensures.cases) }
