@@ -14,7 +14,7 @@ pub fn search<T: Keyed<K>, K: Ordered>(items: &[T], key: &K) -> Result<usize, us
     ensures value { result ≡ sought T.Keyed.keyed K.Ordered.order key.now items.now }
 {
     for (i, item) in items.iter().enumerate() {
-        match key.cmp(item.key()) {
+        match key.compare(item.key()) {
             Ordering::Less => return Err(i),
             Ordering::Equal => return Ok(i),
             Ordering::Greater => {}
