@@ -7,11 +7,11 @@ ghost use Rattle.modules.specs.Tables.{exclusion_names};
 ghost use Rattle.project.specs.States.{main_state};
 
 use super::MainModule;
-use arrayvec::ArrayVec;
+use super::start::Start;
 use layers::exclusions::is_excluded;
 use modules::exclusions::Exclusions;
 use modules::requirements::Requirements;
-use modules::rows::{ModuleVersion, Row};
+use modules::rows::Row;
 use names::path::Path;
 
 impl MainModule {
@@ -38,10 +38,10 @@ impl MainModule {
     }
 
     // The rows that are not excluded, as module versions.
-    pub(crate) fn start(&self, exclusions: &Exclusions) -> ArrayVec<ModuleVersion, 256>
-        ensures value { map names_of result.items ≡ included (exclusion_names exclusions.now) (main_state self.now []).rows }
+    pub(crate) fn start(&self, exclusions: &Exclusions) -> Start
+        ensures value { map names_of result ≡ included (exclusion_names exclusions.now) (main_state self.now []).rows }
     {
-        let mut start = ArrayVec::new();
+        let mut start = Start::new();
         for row in self.requirements.as_slice() {
             if !is_excluded(exclusions, row) {
                 start.push(row.checked());

@@ -35,10 +35,10 @@ loop-row-preserved c =
     let u = map row_names items in
     let l = within items i c.loop-row-test.true in
     let r = read items i x c.row-item.is in
-    let start = c.loop-row.start.items in
-    let after = c.if-not-is_excluded.start.items in
+    let start = c.loop-row.start in
+    let after = c.if-not-is_excluded.start in
     elim c.if-not-is_excluded.branch [
       | then-not-is_excluded w ↦
-          turn_taken es u start i (row_names x) low so_far l r w.checked.result after w.checked.ensures (sym w.if-not-is_excluded.ensures.value) (ap (λ v. v.items) w.start-is ∙ w.push.ensures.items)
-      | else-not-is_excluded w ↦ turn_left es u start i (row_names x) low so_far l r after (sym w.if-not-is_excluded.ensures.value) (ap (λ v. v.items) w.start-is)
+          turn_taken es u start i (row_names x) low so_far l r w.checked.result after w.checked.ensures (sym w.if-not-is_excluded.ensures.value) (w.start-is ∙ w.push.ensures.items)
+      | else-not-is_excluded w ↦ turn_left es u start i (row_names x) low so_far l r after (sym w.if-not-is_excluded.ensures.value) w.start-is
     ]

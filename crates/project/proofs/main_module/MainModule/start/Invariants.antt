@@ -6,4 +6,4 @@ use Rattle.modules.specs.Tables.{exclusion_names}
 use Rattle.project.proofs.main_module.MainModule.start.Given as goal
 
 abbrev pub invariant-loop-row : goal.invariant-loop-row
-invariant-loop-row l = (length l.start.items ≤ l.row-index) × (map names_of l.start.items ≡ included (exclusion_names l.exclusions) (take l.row-index (map row_names l.row-items)))
+invariant-loop-row l = (length l.start ≤ l.row-index) × (map names_of l.start ≡ included (exclusion_names l.exclusions) (take l.row-index (map row_names l.row-items)))
