@@ -20,6 +20,9 @@ use Rattle.lowers.proofs.Edging.{off_short, knows_bad}
 use Rattle.lowers.proofs.Asking.{here_found, here_missing, here_fault, bad_missing, learned_list}
 use Rattle.lowers.proofs.walk.ask_place.Goals as goal
 
+pub write_edges-requires-clause-place : goal.write_edges-requires-clause-place
+write_edges-requires-clause-place g c = omega (arith, c.requires.place, sheet_short c.args.sheet.now)
+
 pub returns-in-Ok-clause-value : goal.returns-in-Ok-clause-value
 returns-in-Ok-clause-value g c =
     let i = c.args.at in
