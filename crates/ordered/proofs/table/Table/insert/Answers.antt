@@ -29,12 +29,15 @@ returns-in_default-clause-value g c =
 missed : (g : given.Over) (c : In-Err g) → Err c.in-Err.at ≡ sought g.T.Keyed.keyed g.K.Ordered.order (g.T.Keyed.keyed c.args.item) (held c.args.self.now)
 missed g c = c.in-Err.ensures.value ∙ ap (λ k. sought g.T.Keyed.keyed g.K.Ordered.order k (held c.args.self.now)) c.key.ensures
 
+-- the count is that of the items
+long : (g : given.Over) (c : In-Err g) → length (held c.args.self.now) ≡ c.self.inside.count
+long g c = ap length (sym (ap held c.self.view_is)) ∙ length-take-le c.self.inside.count c.self.inside.items (omega arith)
+
 -- what is answered where none has, by whether there is room
 answered : (g : given.Over) (c : In-Err g) (room : Bool) → ltb c.self.inside.count g.row.N ≡ room
     → admitted {A = g.row.T.Denot} None room ≡ admitted (lookup g.T.Keyed.keyed g.K.Ordered.order (g.T.Keyed.keyed c.args.item) (held c.args.self.now)) (ltb (length (held c.args.self.now)) g.row.N)
 answered g c room e =
-    let long : length (held c.args.self.now) ≡ c.self.inside.count = ap length (sym (ap held c.self.view_is)) ∙ length-take-le c.self.inside.count c.self.inside.items (omega arith) in
-    ap₂ admitted (missed_looked g.T.Keyed.keyed g.K.Ordered.order (g.T.Keyed.keyed c.args.item) (held c.args.self.now) (ap result_ok (missed g c))) (sym (ap (λ n. ltb n g.row.N) long ∙ e))
+    ap₂ admitted (missed_looked g.T.Keyed.keyed g.K.Ordered.order (g.T.Keyed.keyed c.args.item) (held c.args.self.now) (ap result_ok (missed g c))) (sym (ap (λ n. ltb n g.row.N) (long g c) ∙ e))
 
 pub returns-then-self-clause-value : goal.returns-then-self-clause-value
 returns-then-self-clause-value g c = answered g (goal.at.returns-then-self-clause-value g c).In-Err false (le-ltb c.self.inside.count g.row.N (omega arith))
@@ -44,7 +47,7 @@ returns-clause-value g c = answered g (goal.at.returns-clause-value g c).In-Err 
 
 put : (g : given.Over) (c : goal.After-self-2-1 g) → take (c.self.inside.count + 1) c.insert_at.new.items ≡ entered g.T.Keyed.keyed g.K.Ordered.order keep c.args.item (held c.args.self.now)
 put g c =
-    c.insert_at.ensures.after ∙ ap (λ xs. insert xs c.in-Err.at c.args.item) (ap held c.self.view_is)
+    c.insert_at.ensures.after (omega (arith, c.in-Err.ensures.items, long g (goal.at.returns-clause-value g c).In-Err)) (omega arith) ∙ ap (λ xs. insert xs c.in-Err.at c.args.item) (ap held c.self.view_is)
     ∙ missed_put g.T.Keyed.keyed g.K.Ordered.order c.args.item (held c.args.self.now) c.in-Err.at (missed g (goal.at.returns-clause-value g c).In-Err)
 
 pub returns-clause-after : goal.returns-clause-after
