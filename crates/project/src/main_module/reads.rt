@@ -11,7 +11,7 @@ use super::start::Start;
 use layers::exclusions::is_excluded;
 use modules::exclusions::Exclusions;
 use modules::requirements::Requirements;
-use modules::rows::Row;
+use modules::rows::{ModuleVersion, Row};
 use names::path::Path;
 
 impl MainModule {
@@ -41,12 +41,14 @@ impl MainModule {
     pub(crate) fn start(&self, exclusions: &Exclusions) -> Start
         ensures value { map names_of result ≡ included (exclusion_names exclusions.now) (main_state self.now []).rows }
     {
-        let mut start = Start::new();
+        let mut rows = [ModuleVersion::default(); 256];
+        let mut count = 0;
         for row in self.requirements.as_slice() {
             if !is_excluded(exclusions, row) {
-                start.push(row.checked());
+                rows[count] = row.checked();
+                count += 1;
             }
         }
-        start
+        Start { rows, count }
     }
 }

@@ -1,15 +1,15 @@
-// The rows that a walk starts from, at most 256, written behind one another in an array.
+// The rows that a walk starts from: the first `count` of an array.
 // Kept: no `ArrayVec`, which makes a default for each of its places: that is 256 checks of two texts for each list and each lower. Here a blank is
-// made once, and copied.
-ghost use Rattle.std.specs.Prelude.{◌≡◌, ◌<◌, [], ◌∷◌, ◌++◌, length};
+// made once and copied, and the rows are written where they stay.
+ghost use Rattle.std.specs.Prelude.{◌≡◌};
 
 use modules::rows::ModuleVersion;
 use std::marker::Model;
 
 #[derive(Drop)]
 pub(crate) struct Start {
-    rows: [ModuleVersion; 256],
-    count: usize,
+    pub(super) rows: [ModuleVersion; 256],
+    pub(super) count: usize,
 }
 
 impl Model for Start {
@@ -24,25 +24,6 @@ impl Model for Start {
 }
 
 impl Start {
-    // No rows.
-    pub(crate) fn new() -> Start
-        ensures { result ≡ [] }
-    {
-        Start {
-            rows: [ModuleVersion::default(); 256],
-            count: 0,
-        }
-    }
-
-    // Writes a row behind the others.
-    pub(crate) fn push(&mut self, of: ModuleVersion)
-        requires { length self.old < 256 }
-        ensures items { self.new ≡ self.old ++ of ∷ [] }
-    {
-        self.rows[self.count] = of;
-        self.count += 1;
-    }
-
     pub(crate) fn as_slice(&self) -> &[ModuleVersion]
         ensures value { result.now ≡ self.now }
     {

@@ -9,23 +9,16 @@ use Rattle.walks.specs.Places.{place_of}
 use Rattle.walks.proofs.Fillings.{place_read, row_read}
 use Rattle.walks.proofs.sheet.Filling+Place.module_version.Goals as goal
 
-pub checked-requires : goal.checked-requires
-checked-requires c =
-    let ps = items_of c.args.self.now in
-    let at = c.args.at in
-    let d = c.index-as_slice-at.result in
-    let one : 1 ≤ at = omega (arith, c.requires.place) in
-    let within : at < length ps = omega (arith, c.requires.place, length-map ps place_of) in
-    subst (λ (qs : List Place). is_module_version (row_names (get_or qs at d).row) ≡ true) (sym c.as_slice.ensures.value)
-    (c.requires.formed at (place_of (get_or ps at d)) one (place_read ps at d within))
-
 pub returns : goal.returns
 returns c =
     let ps = items_of c.args.self.now in
     let at = c.args.at in
     let d = c.index-as_slice-at.result in
+    let one : 1 ≤ at = omega (arith, c.requires.place) in
     let within : at < length ps = omega (arith, c.requires.place, length-map ps place_of) in
+    let formed : is_module_version (row_names (get_or c.as_slice.result.now at d).row) ≡ true
+    = subst (λ (qs : List Place). is_module_version (row_names (get_or qs at d).row) ≡ true) (sym c.as_slice.ensures.value) (c.requires.formed at (place_of (get_or ps at d)) one (place_read ps at d within)) in
     record {
       value = row_read ps at d within
-          ∙ ap Some (sym (c.checked.ensures ∙ ap (λ (qs : List Place). row_names (get_or qs at d).row) c.as_slice.ensures.value));
+          ∙ ap Some (sym (c.checked.ensures formed ∙ ap (λ (qs : List Place). row_names (get_or qs at d).row) c.as_slice.ensures.value));
     }
