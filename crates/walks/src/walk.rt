@@ -45,7 +45,7 @@ fn question<S: Source>(
     ensures value { EndsAs (asked_at (seen_by (path_bytes main.now) (S.Source.meaning source.old)) at (sheet_of sheet.old)) result (sheet_of sheet.new) }
     ensures same_reference { sheet.new.items.ghost_name ≡ sheet.old.items.ghost_name }
 {
-    let of = sheet.module_version(at);
+    let of = sheet.module_version(at).unwrap();
     let mut rows = [Row::blank(); 64];
     let found = source
         .requirements(&of, &mut rows)
