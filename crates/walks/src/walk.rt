@@ -31,7 +31,8 @@ pub fn refused_at(at: usize, fault: Fault) -> Refusal
 }
 
 // Questions a place, and writes what it requires.
-// Kept: the source, the main path and the sheet are passed. In a struct each would need a clause that its reference stays the same.
+// Kept: the source, the main path and the sheet are passed. In a struct each would need a clause that its reference stays the same. That the rows are
+// formed is asked, and no fact of the type, since a row is written before it is known to be well formed.
 fn question<S: Source>(
     source: &mut S,
     main: &Path,
