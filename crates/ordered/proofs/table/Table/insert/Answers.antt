@@ -1,5 +1,5 @@
 -- The item is written at the place where it would stand, unless one of its key is there or there is no room. Assumes nothing.
-use Rattle.std.proofs.Common.{◌≡◌, ◌+◌, Bool, true, false, ltb, length, take, None, Err, sym, ap, ◌∙◌, ap₂, arith, refl}
+use Rattle.std.proofs.Common.{◌≡◌, ◌+◌, Bool, true, false, ltb, List, length, take, None, Err, sym, ap, ◌∙◌, ap₂, arith, refl}
 use Rattle.std.specs.Result.{result_ok}
 use Rattle.std.specs.List.{insert}
 use Rattle.std.proofs.lemmas.List.{length-take-le}
@@ -45,13 +45,18 @@ returns-then-self-clause-value g c = answered g (goal.at.returns-then-self-claus
 pub returns-clause-value : goal.returns-clause-value
 returns-clause-value g c = answered g (goal.at.returns-clause-value g c).In-Err true (lt-ltb c.self.inside.count g.row.N (omega arith))
 
-put : (g : given.Over) (c : goal.After-self-2-1 g) → take (c.self.inside.count + 1) c.insert_at.new.items ≡ entered g.T.Keyed.keyed g.K.Ordered.order keep c.args.item (held c.args.self.now)
-put g c =
-    c.insert_at.ensures.after (omega (arith, c.in-Err.ensures.items, long g (goal.at.returns-clause-value g c).In-Err)) (omega arith) ∙ ap (λ xs. insert xs c.in-Err.at c.args.item) (ap held c.self.view_is)
-    ∙ missed_put g.T.Keyed.keyed g.K.Ordered.order c.args.item (held c.args.self.now) c.in-Err.at (missed g (goal.at.returns-clause-value g c).In-Err)
+put : (g : given.Over) (c : In-Err g) (left : List g.row.T.Denot) → left ≡ insert (take c.self.inside.count c.self.inside.items) c.in-Err.at c.args.item → left ≡ entered g.T.Keyed.keyed g.K.Ordered.order keep c.args.item (held c.args.self.now)
+put g c left is =
+    is ∙ ap (λ xs. insert xs c.in-Err.at c.args.item) (ap held c.self.view_is)
+    ∙ missed_put g.T.Keyed.keyed g.K.Ordered.order c.args.item (held c.args.self.now) c.in-Err.at (missed g c)
 
 pub returns-clause-after : goal.returns-clause-after
-returns-clause-after g c = λ _. put g c
+returns-clause-after g c =
+    let e = (goal.at.returns-clause-after g c).In-Err in
+    λ _. put g e _ (c.insert_at.ensures.after (omega (arith, c.in-Err.ensures.items, long g e)) (omega arith))
 
 pub returns-clause-ascending : goal.returns-clause-ascending
-returns-clause-ascending g c = entered_ascends g.T.Keyed.keyed g.K.Ordered.order (laws g) (held c.args.self.now) _ keep (λ _ _ _. refl) c.args.item (put g c)
+returns-clause-ascending g c =
+    let e = (goal.at.returns-clause-ascending g c).In-Err in
+    entered_ascends g.T.Keyed.keyed g.K.Ordered.order (laws g) (held c.args.self.now) _ keep (λ _ _ _. refl) c.args.item
+    (put g e _ (c.insert_at.ensures.after (omega (arith, c.in-Err.ensures.items, long g e)) (omega arith)))
