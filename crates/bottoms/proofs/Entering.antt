@@ -12,7 +12,7 @@ use Rattle.rules.specs.Sources.{Answer, found, fault, found_in, narrowed, over_6
 use Rattle.rules.specs.Tables.{keep, lookup, entered, entered_all}
 use Rattle.rules.specs.Rows.{own}
 use Rattle.rules.proofs.Tables.{entered_most, entered_all_least}
-use Rattle.ordered.specs.Held.{admitted, fitting}
+use Rattle.ordered.specs.Held.{held, admitted, fitting}
 use Rattle.ordered.specs.declared.table.NotInserted.{NotInserted}
 use Rattle.ordered.specs.declared.table.NotInserted.TheVariants.{Present, Full}
 use Rattle.ordered.proofs.Joining.{joined_same, joined_over}
@@ -24,7 +24,7 @@ use Rattle.bottoms.specs.Items.{with_version, entered_held, listing_answer}
 
 -- a listing has at most 64 versions
 pub listing_fits : (t : Listing) → length (listing_bytes t) ≤ 64
-listing_fits t = omega (arith, t.fits, length-map t.table plain_version_bytes)
+listing_fits t = omega (arith, t.fits, length-map (held t.table) plain_version_bytes)
 
 module _ (v : Bytes) (t : List Bytes) where
   abbrev with_one : List Bytes

@@ -1,7 +1,6 @@
 // The pairs of a buffer, gone through from the first to the last: until one is found, or for the versions that they hold.
-ghost use Rattle.std.specs.Prelude.{◌≡◌, true, Bool, Option};
+ghost use Rattle.std.specs.Prelude.{◌≡◌, Bool, Option};
 ghost use Rattle.std.specs.Option.{option_map};
-ghost use Rattle.std.specs.List.{AllByRecursion};
 ghost use Rattle.rules.specs.Orders.{Bytes};
 ghost use Rattle.rules.specs.Names.{ModuleVersion as Names};
 ghost use Rattle.versions.specs.Values.{plain_version_bytes};
@@ -21,9 +20,6 @@ use versions::version::PlainVersion;
 
 // How a kind of buffer reads its pairs.
 pub trait Pairs {
-    // what is so of each pair of a buffer that was accepted
-    ghost formed: { ToldPair → Bool };
-
     ghost asked: { Names → ToldPair → Bool };
 
     ghost held: { Bytes → ToldPair → Option Bytes };
@@ -34,7 +30,6 @@ pub trait Pairs {
 
     // The version that a pair holds for a path.
     fn version_in(pair: Pair<'_>, path: &[u8]) -> Option<PlainVersion>
-        requires { formed (pair_cut_of pair).pair ≡ true }
         ensures value { option_map plain_version_bytes result ≡ held path.now (pair_cut_of pair.entry).pair };
 }
 
@@ -54,7 +49,6 @@ pub fn find_pair<'a, P: Pairs>(bytes: &'a [u8], of: &ModuleVersion) -> Option<Pa
 
 // The versions that pairs hold for a path, unless they are more than 64.
 pub fn list_versions<P: Pairs>(bytes: &[u8], path: &[u8]) -> Option<Listing>
-    requires { AllByRecursion (λ q. P.formed q ≡ true) (pairs_in bytes.now) }
     ensures value { option_map listing_bytes result ≡ fitting 64 (version_table (versions_in P.held path.now (pairs_in bytes.now))) }
 {
     let mut listing = Listing::new();

@@ -7,6 +7,7 @@ use Rattle.rules.specs.Tables.{lookup}
 use Rattle.rules.proofs.Members.{has_from_member, member_from_has}
 use Rattle.rules.proofs.Order.{module_versions}
 use Rattle.rules.proofs.Tables.{lookup_some, lookup_none, map_ascending}
+use Rattle.ordered.specs.Held.{held}
 use Rattle.ordered.proofs.Ascents.{passed}
 use Rattle.modules.specs.Rows.{row_names, row_order}
 use Rattle.modules.specs.Tables.{exclusion_names}
@@ -23,4 +24,4 @@ lookup_has x es up = go (lookup own module_order x es) refl
 
 -- the table of exclusions ascends, by the names that it holds
 pub names_ascend : (t : Exclusions) → AscendingExclusions (exclusion_names t)
-names_ascend t = map_ascending own row_order own module_order row_names (λ a b. refl) t.table (passed own row_order t.table t.ascending)
+names_ascend t = map_ascending own row_order own module_order row_names (λ a b. refl) (held t.table) (passed own row_order (held t.table) t.ascending)

@@ -27,6 +27,12 @@ use Rattle.lowers.specs.Learned.{edges_in, is_marked, Edged, Cleared, Knows}
 abbrev pub Extends : List ModuleVersion → List ModuleVersion → Type 0
 Extends s t = (i : ℕ) (x : ModuleVersion) → slice_get s i ≡ Some x → slice_get t i ≡ Some x
 
+-- what stands at a place lies in the list
+pub nth_within : (xs : List ModuleVersion) (i : ℕ) (x : ModuleVersion) → slice_get xs i ≡ Some x → i < length xs
+nth_within [] i x e = let z : ◌≡◌ {A = ℕ} 0 1 = cc in omega arith
+nth_within (y ∷ ys) zero x e = omega arith
+nth_within (y ∷ ys) (suc i) x e = omega (arith, nth_within ys i x e)
+
 pub place_row : (s : List R.Place) (i : ℕ) (r : R.Place) → slice_get s i ≡ Some r → slice_get (module_versions s) i ≡ Some r.row
 place_row [] i r e = let z : ◌≡◌ {A = ℕ} 0 1 = cc in absurd (omega arith)
 place_row (q ∷ qs) zero r e = let same : q ≡ r = cc in ap (λ (p : R.Place). Some p.row) same

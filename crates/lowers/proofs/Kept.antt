@@ -1,5 +1,5 @@
 -- That the rows which are kept are the kept rows of the rules. Assumes nothing.
-use Rattle.std.proofs.Common.{◌≡◌, ℕ, zero, suc, ◌+◌, ◌-◌, ◌<◌, ◌≤◌, Bool, true, false, cond, ◌⊎◌, List, [], ◌∷◌, ◌++◌, map, length, get_or, take, drop, replicate, Some, Ok, Err, Ordering, Less, Equal, Greater, sym, refl, ap, ◌∙◌, subst, inl, inr, ⊎_elim, true≢false, arith}
+use Rattle.std.proofs.Common.{◌≡◌, ℕ, zero, suc, ◌+◌, ◌-◌, ◌≤◌, Bool, true, false, cond, ◌⊎◌, List, [], ◌∷◌, ◌++◌, map, length, get_or, take, drop, replicate, Some, Ok, Err, Ordering, Less, Equal, Greater, sym, refl, ap, ◌∙◌, subst, inl, inr, ⊎_elim, true≢false, arith}
 use Rattle.std.specs.List.{slice_get, AllByRecursion}
 use Rattle.std.specs.Ordering.{is_lt, is_eq}
 use Rattle.std.proofs.lemmas.List.{append-nil, append_assoc, take_all, take-map, length-take, drop-take}
@@ -42,7 +42,7 @@ use Rattle.lowers.specs.declared.learned.Learned.{Learned}
 use Rattle.lowers.specs.Learned.{edges_in, is_marked, Cleared, Knows}
 use Rattle.lowers.specs.Spreads.{Narrow, LeadsToMark, here, along, SpreadOut, spared}
 use Rattle.lowers.proofs.Looking.{ceilings_up, ceilings_formed}
-use Rattle.lowers.proofs.Edging.{Extends, place_row}
+use Rattle.lowers.proofs.Edging.{Extends, nth_within, place_row}
 use Rattle.lowers.proofs.Offering.{followed, offers_followed}
 use Rattle.lowers.proofs.Keeping.{with_first}
 
@@ -57,11 +57,6 @@ member_nth : (xs : List ModuleVersion) (x : ModuleVersion) → x ∈ xs → (i :
 member_nth [] x h = absurd h
 member_nth (y ∷ ys) x (inl e) = (0, ap Some (sym e))
 member_nth (y ∷ ys) x (inr h) = let (i, n) = member_nth ys x h in (suc i, n)
-
-nth_within : (xs : List ModuleVersion) (i : ℕ) (x : ModuleVersion) → slice_get xs i ≡ Some x → i < length xs
-nth_within [] i x e = let z : ◌≡◌ {A = ℕ} 0 1 = cc in omega arith
-nth_within (y ∷ ys) zero x e = omega arith
-nth_within (y ∷ ys) (suc i) x e = omega (arith, nth_within ys i x e)
 
 -- a list that goes on another begins with it
 pub extends_front : (xs ys : List ModuleVersion) → Extends xs ys → take (length xs) ys ≡ xs

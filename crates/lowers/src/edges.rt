@@ -22,7 +22,8 @@ fn write_edge(
     row: Row,
     learned: &mut Learned,
 ) -> Result<(), Refusal>
-    requires { length (edges_in learned.old) < 16384 }
+    requires room { length (edges_in learned.old) < 16384 }
+    requires place { at < 256 }
     ensures value { EndsAs (if_room (ended done) (written at (off_main (path_bytes main.now) (row_names row ∷ [])) (sheet_of sheet.old))) result (sheet_of sheet.new) }
     ensures same_reference { sheet.new.items.ghost_name ≡ sheet.old.items.ghost_name }
     ensures marks { learned.new.marked ≡ learned.old.marked }
@@ -43,7 +44,8 @@ pub(crate) fn write_edges(
     rows: &[Row],
     learned: &mut Learned,
 ) -> Result<(), Refusal>
-    requires { length (edges_in learned.old) + length rows.now ≤ 16384 }
+    requires room { length (edges_in learned.old) + length rows.now ≤ 16384 }
+    requires place { at < 256 }
     ensures value { EndsAs (if_room (ended done) (written at (off_main (path_bytes main.now) (map row_names rows.now)) (sheet_of sheet.old))) result (sheet_of sheet.new) }
     ensures same_reference { sheet.new.items.ghost_name ≡ sheet.old.items.ghost_name }
     ensures marks { learned.new.marked ≡ learned.old.marked }

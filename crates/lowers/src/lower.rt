@@ -28,9 +28,9 @@ use modules::rows::{ModuleVersion, Row};
 use names::path::Path;
 use source::questions::{ListingSource, Source};
 use versions::version::Version;
+use walks::filling::Filling;
 use walks::list::list as make_list;
 use walks::place::Place;
-use walks::sheet::Sheet;
 
 // Lowers under ceilings, and leaves blanks behind what is written.
 fn lower_ceilings<S: ListingSource>(
@@ -46,7 +46,11 @@ fn lower_ceilings<S: ListingSource>(
     ensures value { told_of result sheet.new ≡ told_under (seen_by (path_bytes main.now) (S.Source.meaning source.old)) (length sheet.old) (ceiling_rows ceilings.now) }
     ensures formed { IfOk result (λ l. every is_module_version (requirement_names l.kept) ≡ true) }
 {
-    let mut places = Sheet::begin(sheet, main);
+    let mut places = Filling {
+        items: sheet,
+        count: 0,
+    };
+    places.begin(main);
     let lowered = lower_under(source, main, ceilings, &mut places);
     places.blank_behind(Place::blank());
     lowered

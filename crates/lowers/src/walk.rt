@@ -40,7 +40,7 @@ fn ask_place<S: Source>(
     ensures same_reference { sheet.new.items.ghost_name ≡ sheet.old.items.ghost_name }
     ensures learned { IfOk result (λ _. Knows (seen_by (path_bytes main.now) (S.Source.meaning source.old)) (ceiling_rows ceilings.now) (sheet_of sheet.new) learned.new (at + 1)) }
 {
-    let of = sheet.module_version(at);
+    let of = sheet.module_version(at).unwrap();
     let mut rows = [Row::blank(); 64];
     match source.requirements(&of, &mut rows) {
         Ok(found) => write_edges(sheet, main, at, &rows[..found.count], learned),

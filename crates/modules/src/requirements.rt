@@ -3,6 +3,7 @@
 ghost use Rattle.std.specs.Prelude.{◌≡◌, ◌≤◌, true, length};
 ghost use Rattle.names.specs.Paths.{plain_path_order};
 ghost use Rattle.ordered.specs.Ascents.{is_ascending};
+ghost use Rattle.ordered.specs.Held.{held};
 ghost use Rattle.modules.specs.Rows.{row_path};
 
 use crate::rows::Row;
@@ -14,6 +15,6 @@ pub mod uses;
 #[derive(Drop)]
 pub struct Requirements {
     table: Table<Row, 256>,
-    ghost ascending: { is_ascending row_path plain_path_order table ≡ true },
-    ghost fits: { length table ≤ 256 },
+    ghost ascending: { is_ascending row_path plain_path_order (held table) ≡ true },
+    ghost fits: { length (held table) ≤ 256 },
 }

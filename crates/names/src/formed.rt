@@ -1,5 +1,5 @@
 // Texts of a kind. A plain one claims nothing and stands in the order of its kind: what tables and slices hold. A formed one is well formed.
-ghost use Rattle.std.specs.Prelude.{◌≡◌, true, Ok};
+ghost use Rattle.std.specs.Prelude.{◌≡◌, ⊤, true, Ok};
 ghost use Rattle.names.specs.Texts.{text_bytes};
 
 use crate::grammar::Grammar;
@@ -24,6 +24,10 @@ pub struct Formed<G: Grammar> {
 
 // Kept: `Clone` is not to be derived over a ghost field.
 impl<G: Grammar> Clone for Formed<G> {
+    ghost is_clone = { λ x y. y ≡ x };
+
+    ghost is_infallible = { λ _. ⊤ };
+
     fn clone(&self) -> Result<Self, AllocError>
         ensures { result ≡ Ok self.now }
     {

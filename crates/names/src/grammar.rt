@@ -22,10 +22,9 @@ pub trait Grammar {
     fn compare(a: &[u8], b: &[u8]) -> Ordering
         ensures { result ≡ order a.now b.now };
 
-    // The same of two texts that are well formed, where that saves work.
+    // The same of two texts that are well formed, where that saves work. Of others nothing is said of the answer.
     fn compare_formed(a: &[u8], b: &[u8]) -> Ordering
-        requires { (formed a.now ≡ true) × (formed b.now ≡ true) }
-        ensures { result ≡ order a.now b.now }
+        ensures { formed a.now ≡ true → formed b.now ≡ true → result ≡ order a.now b.now }
     {
         Self::compare(a, b)
     }

@@ -1,3 +1,4 @@
 pub mod Places
+pub mod Seen
 pub mod Held
 pub mod Ascents

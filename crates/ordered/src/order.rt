@@ -4,23 +4,30 @@ ghost use Rattle.std.specs.declared.cmp.Ordering.{Ordering};
 ghost use Rattle.std.specs.Ordering.{ordering_reverse};
 ghost use Rattle.rules.specs.Orders.{AtOrBelow};
 
-pub trait Ordered: Ord {
-    // How the first stands to the second, in the words of the rules.
+use std::cmp::Ordering;
+
+pub trait Ordered: Sized {
+    // How the first stands to the second.
     ghost order: { Self → Self → Ordering };
 
-    // And so `cmp` compares them.
-    ghost compared: { (x y : Self) → Self.cmp x y ≡ order x y };
+    fn compare(&self, other: &Self) -> Ordering
+        ensures { result ≡ order self.now other.now };
 
     // Of two things one is at or below the other.
-    ghost total: { (x y : Self) → AtOrBelow Self.cmp x y ⊎ AtOrBelow Self.cmp y x };
+    ghost total: { (x y : Self) → AtOrBelow order x y ⊎ AtOrBelow order y x };
 
     // Two that are each at or below the other are the same.
-    ghost antisymmetric: { (x y : Self) → AtOrBelow Self.cmp x y → AtOrBelow Self.cmp y x → x ≡ y };
+    ghost antisymmetric: { (x y : Self) → AtOrBelow order x y → AtOrBelow order y x → x ≡ y };
 
-    ghost transitive: { (x y z : Self) → AtOrBelow Self.cmp x y → AtOrBelow Self.cmp y z → AtOrBelow Self.cmp x z };
+    ghost transitive: { (x y z : Self) → AtOrBelow order x y → AtOrBelow order y z → AtOrBelow order x z };
 
     // The answer for two is told by the answer for the two the other way round.
-    ghost mirrored: { (x y : Self) → Self.cmp y x ≡ ordering_reverse (Self.cmp x y) };
+    ghost mirrored: { (x y : Self) → order y x ≡ ordering_reverse (order x y) };
+}
+
+// What the library's comparison, and so `<` and its kin, sets in that order.
+pub trait Compared: Ordered + Ord {
+    ghost compared: { (x y : Self) → Self.cmp x y ≡ Self.order x y };
 }
 
 // A thing that stands in a table by a key of the type K.

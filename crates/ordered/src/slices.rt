@@ -1,5 +1,5 @@
 // Slices: looked through for a key, and one item more or less among the first of their places.
-ghost use Rattle.std.specs.Prelude.{◌≡◌, ◌+◌, ◌-◌, ◌<◌, ◌≤◌, length, take, drop, MatchResult};
+ghost use Rattle.std.specs.Prelude.{◌≡◌, ◌+◌, ◌-◌, ◌<◌, ◌≤◌, length, take, drop, ◌⊎◌, MatchResult};
 ghost use Rattle.std.specs.List.{insert, remove};
 ghost use Rattle.ordered.specs.Places.{sought};
 
@@ -14,7 +14,7 @@ pub fn search<T: Keyed<K>, K: Ordered>(items: &[T], key: &K) -> Result<usize, us
     ensures value { result ≡ sought T.Keyed.keyed K.Ordered.order key.now items.now }
 {
     for (i, item) in items.iter().enumerate() {
-        match key.cmp(item.key()) {
+        match key.compare(item.key()) {
             Ordering::Less => return Err(i),
             Ordering::Equal => return Ok(i),
             Ordering::Greater => {}
@@ -23,14 +23,17 @@ pub fn search<T: Keyed<K>, K: Ordered>(items: &[T], key: &K) -> Result<usize, us
     Err(items.len())
 }
 
-// Moves the items from `at` up to `count` up by one place, and writes `item` at `at`.
+// Moves the items from `at` up to `count` up by one place, and writes `item` at `at`. Nothing is written where `at` lies behind `count`, or where
+// there is no place behind the first `count`.
 pub fn insert_at<T: Copy>(items: &mut [T], count: usize, at: usize, item: T)
-    requires { (at ≤ count) × (count < length items.old) }
-    ensures after { take (count + 1) items.new ≡ insert (take count items.old) at item }
+    ensures after { at ≤ count → count < length items.old → take (count + 1) items.new ≡ insert (take count items.old) at item }
     ensures same { drop (count + 1) items.new ≡ drop (count + 1) items.old }
+    ensures still { (count < at) ⊎ (length items.old ≤ count) → items.new ≡ items.old }
 {
-    items.copy_within(at..count, at + 1);
-    items[at] = item;
+    if at <= count && count < items.len() {
+        items.copy_within(at..count, at + 1);
+        items[at] = item;
+    }
 }
 
 // Moves the items behind `at`, up to `count`, down by one place, over the one that stands there.

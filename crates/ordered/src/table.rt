@@ -1,5 +1,5 @@
-// A table of at most N items. It is seen as the list of them: they stand in the first `count` places of an array, and what stands in the places
-// behind them says nothing.
+// A table of at most N items: the first `count` places of an array. It is seen as the list of its items, and beside it what stands in the places
+// behind them, which says nothing, but stays as it is where a call changes nothing.
 // Kept: an array and a count, since an `ArrayVec` wants items that have a default.
 use std::marker::Model;
 
@@ -14,11 +14,12 @@ pub struct Table<T, const N: usize> {
 }
 
 impl<T, const N: usize> Model for Table<T, N> {
-    ghost use Rattle.std.specs.Prelude.{◌≡◌, ◌≤◌, List, length, take};
+    ghost use Rattle.std.specs.Prelude.{◌≡◌, ◌≤◌, length, take, drop};
+    ghost use Rattle.ordered.specs.Seen.{Seen};
 
-    ghost Value = { List T };
+    ghost Value = { Seen T };
 
-    ghost view = { λ t. take t.count t.items };
+    ghost view = { λ t. record { items = take t.count t.items; behind = drop t.count t.items } };
 
     ghost invariant = { λ t. (length t.items ≡ N) × (t.count ≤ N) };
 }

@@ -9,6 +9,7 @@ use names::path::Path;
 
 pub mod changes;
 pub mod reads;
+mod start;
 
 #[derive(Drop)]
 pub struct MainModule {

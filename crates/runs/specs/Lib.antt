@@ -1,3 +1,4 @@
+pub mod Parts
 pub mod Told
 pub mod Law
 pub mod Bounds

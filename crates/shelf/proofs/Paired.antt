@@ -1,6 +1,7 @@
 -- Reading a shelf, one pair after the other. Assumes nothing.
 use Rattle.std.proofs.Common.{◌≡◌, ℕ, zero, suc, ◌+◌, ◌-◌, ◌<◌, ◌≤◌, Bool, true, false, cond, ◌&&◌, eqb, leb, List, [], ◌∷◌, ◌++◌, map, length, take, set, replicate, Some, None, Option, sym, refl, ap, ◌∙◌, ap₂, arith}
-use Rattle.std.specs.Option.{option_map}
+use Rattle.std.specs.Option.{option_map, option_and_then}
+use Rattle.std.specs.List.{AllByRecursion}
 use Rattle.std.specs.Bool.{then_some}
 use Rattle.std.specs.Str.{bytes_eq}
 use Rattle.std.proofs.lemmas.List.{append_assoc, append-nil, length-append, length-map, length-take-le, map-append, map-set, take-map, take_more_set}
@@ -17,7 +18,8 @@ use Rattle.rules.specs.Sources.{found, fault, missing_here}
 use Rattle.bottoms.specs.Seeking.{Seen, first_from}
 use Rattle.bottoms.specs.Items.{first_of, answered, with_version, versions_in}
 use Rattle.shelf.specs.Grammar.{tag_M, tag_R}
-use Rattle.shelf.specs.Records.{Record, named, rows_at, records, are_names, is_record_of, record_answer, record_version, heads, head_version, row_cut, record_rows}
+use Rattle.shelf.specs.Laws.{is_formed}
+use Rattle.shelf.specs.Records.{Record, named, rows_at, records, are_names, is_record_of, record_answer, record_version, heads, head_version, held_version, row_cut, record_rows}
 
 -- ---- records
 
@@ -61,10 +63,6 @@ one_version p q qs = go (eqb q.tag tag_M)
         ≡ with_version (then_some (b && bytes_eq q.first p) q.second) (versions_in record_version p (records qs))
     go true = refl
     go false = refl
-
-pub versions_held : (p : Bytes) (qs : List Pair) → versions_in head_version p qs ≡ versions_in record_version p (records qs)
-versions_held p [] = refl
-versions_held p (q ∷ qs) = ap (with_version (head_version p q)) (versions_held p qs) ∙ sym (one_version p q qs)
 
 -- ---- rows
 
@@ -157,3 +155,16 @@ row_is_some false x y e = let z : ◌≡◌ {A = ℕ} 0 1 = cc in absurd (omega 
 pub row_is_none : {A : Type 0} (b : Bool) (y : A) → None ≡ then_some b y → b ≡ true → ⊥
 row_is_none true y e h = let z : ◌≡◌ {A = ℕ} 0 1 = cc in omega arith
 row_is_none false y e h = true≢false (sym h)
+
+-- ---- versions of pairs that are well formed
+
+held_whole : (p : Bytes) (q : Pair) → is_formed q ≡ true → held_version p q ≡ head_version p q
+held_whole p q e = go (eqb q.tag tag_M && bytes_eq q.first p)
+  where
+    go : (b : Bool) → option_and_then (λ (v : Bytes). then_some (leb (length v) 48) v) (then_some b q.second) ≡ then_some b q.second
+    go true = ap (λ s. then_some s q.second) (and_parts (leb (length q.first) 48) (leb (length q.second) 48) (names_short q.first q.second e)).1
+    go false = refl
+
+pub versions_held : (p : Bytes) (qs : List Pair) → AllByRecursion (λ q. is_formed q ≡ true) qs → versions_in held_version p qs ≡ versions_in record_version p (records qs)
+versions_held p [] f = refl
+versions_held p (q ∷ qs) (f, fs) = ap₂ with_version (held_whole p q f) (versions_held p qs fs) ∙ sym (one_version p q qs)

@@ -1,6 +1,6 @@
 -- What a shelf says: its records, each a module version and the rows that it requires. The first record of a module version counts; the
 -- versions of a path are those of its records. Assumes nothing.
-use Rattle.std.specs.Prelude.{Bool, cond, ◌&&◌, List, [], ◌∷◌, Some, None, Option, ◌==◌}
+use Rattle.std.specs.Prelude.{Bool, cond, ◌&&◌, List, [], ◌∷◌, length, nat_le, Some, None, Option, option_and_then, ◌==◌}
 use Rattle.std.specs.Bool.{then_some}
 use Rattle.std.specs.Str.{bytes_eq}
 use Rattle.rules.specs.Orders.{Bytes}
@@ -53,6 +53,10 @@ heads x q = q.tag == tag_M && are_names x (named q)
 -- the version that the pair holds for a path, if it begins a record
 abbrev pub head_version : Bytes → Pair → Option Bytes
 head_version p q = then_some (q.tag == tag_M && bytes_eq q.first p) q.second
+
+-- the same, if it has at most 48 bytes
+abbrev pub held_version : Bytes → Pair → Option Bytes
+held_version p q = option_and_then (λ v. then_some (nat_le (length v) 48) v) (head_version p q)
 
 -- the first pair, if it is a row
 abbrev pub row_cut : Option PairCut → Option PairCut

@@ -9,7 +9,7 @@ ghost use Rattle.modules.specs.Rows.{row_names, names_of};
 ghost use Rattle.fields.specs.Pairs.{pair_of, pairs_in};
 ghost use Rattle.fields.specs.Views.{pair_cut_of};
 ghost use Rattle.shelf.specs.Laws.{is_formed};
-ghost use Rattle.shelf.specs.Records.{named, rows_at, heads, head_version, row_cut};
+ghost use Rattle.shelf.specs.Records.{named, rows_at, heads, held_version, row_cut};
 
 use crate::shelf::Shelf;
 use bottoms::pairs::Pairs;
@@ -20,11 +20,9 @@ use versions::version::PlainVersion;
 
 // A pair with the tag M begins a record.
 impl Pairs for Shelf<'_> {
-    ghost formed = { is_formed };
-
     ghost asked = { heads };
 
-    ghost held = { head_version };
+    ghost held = { held_version };
 
     fn is_asked(pair: Pair<'_>, of: &ModuleVersion) -> bool
         ensures value { result ≡ heads (names_of of.now) (pair_cut_of pair.entry).pair }
@@ -33,8 +31,7 @@ impl Pairs for Shelf<'_> {
     }
 
     fn version_in(pair: Pair<'_>, path: &[u8]) -> Option<PlainVersion>
-        requires { is_formed (pair_cut_of pair).pair ≡ true }
-        ensures value { option_map plain_version_bytes result ≡ head_version path.now (pair_cut_of pair.entry).pair }
+        ensures value { option_map plain_version_bytes result ≡ held_version path.now (pair_cut_of pair.entry).pair }
     {
         if pair.tag == b'M' && pair.first == path {
             PlainVersion::of(pair.second)

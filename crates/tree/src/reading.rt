@@ -1,5 +1,5 @@
 // How an accepted tree is read, file by file.
-ghost use Rattle.std.specs.Prelude.{◌≡◌, true, map, length};
+ghost use Rattle.std.specs.Prelude.{◌≡◌, map, length};
 ghost use Rattle.std.specs.Option.{option_map};
 ghost use Rattle.rules.specs.Questions.{told};
 ghost use Rattle.rules.specs.Slices.{blank};
@@ -21,8 +21,6 @@ use versions::version::PlainVersion;
 
 // A pair is a file: its name and its body.
 impl Pairs for Tree<'_> {
-    ghost formed = { λ _. true };
-
     ghost asked = { is_file_of };
 
     ghost held = { file_version };

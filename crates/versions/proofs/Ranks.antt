@@ -197,9 +197,10 @@ end_same Dot Dot h = refl
 module _ {part : Part} {a p : Bytes} {e : End} {r b q : Bytes} {f : End} {s : Bytes} {i k w : Ordering} (j : Ordering)
     (g : Begins part a p e r) (h : Begins part b q f s)
     (inv : (sound part a ≡ true) × (sound part b ≡ true) × (order_left part a b ≡ w))
-    (by_piece : i ≡ identifier_order (identifier p) (identifier q)) (by_end : j ≡ ghosts.cmp e f) (by_both : k ≡ ordering_then i j) where
+    (by_piece : is_identifier p ≡ true → is_identifier q ≡ true → i ≡ identifier_order (identifier p) (identifier q)) (by_end : j ≡ ghosts.cmp e f) (by_both : k ≡ ordering_then i j) where
   told : k ≡ ordering_then (identifier_order (identifier p) (identifier q)) (end_order e f)
-  told = by_both ∙ ap₂ ordering_then by_piece (cmp_ends e f j by_end)
+  told =
+      by_both ∙ ap₂ ordering_then (by_piece (sound_piece part a p e r g inv.0) (sound_piece part b q f s h inv.1)) (cmp_ends e f j by_end)
 
   whole : ordering_then k (order_behind part e r s) ≡ w
   whole = ap (λ o. ordering_then o (order_behind part e r s)) told ∙ sym (order_first part a p e r b q f s g h inv.0 inv.1) ∙ inv.2

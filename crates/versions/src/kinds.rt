@@ -55,15 +55,13 @@ pub fn is_identifier(piece: &[u8]) -> bool
 
 // No number has a zero in front, so of two numbers the longer is the greater, and of as many digits the first that differ decide.
 fn compare_numbers(a: &[u8], b: &[u8]) -> Ordering
-    requires { (is_number a.now ≡ true) × (is_number b.now ≡ true) }
-    ensures { result ≡ number_order (value 0 a.now) (value 0 b.now) }
+    ensures { is_number a.now ≡ true → is_number b.now ≡ true → result ≡ number_order (value 0 a.now) (value 0 b.now) }
 {
     a.len().cmp(&b.len()).then(a.cmp(b))
 }
 
 pub(crate) fn compare_pieces(a: &[u8], b: &[u8]) -> Ordering
-    requires { (is_identifier a.now ≡ true) × (is_identifier b.now ≡ true) }
-    ensures { result ≡ identifier_order (identifier a.now) (identifier b.now) }
+    ensures { is_identifier a.now ≡ true → is_identifier b.now ≡ true → result ≡ identifier_order (identifier a.now) (identifier b.now) }
 {
     match (is_number(a), is_number(b)) {
         (true, true) => compare_numbers(a, b),

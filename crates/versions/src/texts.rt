@@ -68,14 +68,16 @@ pub fn is_version(text: &[u8]) -> bool
     }
 }
 
-// How two versions stand, in one pass over both.
+// How two versions stand, in one pass over both. Of other texts nothing is said of the answer.
 pub(crate) fn precedence(a: &[u8], b: &[u8]) -> Ordering
-    requires { (is_version a.now ≡ true) × (is_version b.now ≡ true) }
-    ensures { result ≡ version_order a.now b.now }
+    ensures { is_version a.now ≡ true → is_version b.now ≡ true → result ≡ version_order a.now b.now }
 {
+    let ([_, release @ ..], [_, other @ ..]) = (a, b) else {
+        return Ordering::Equal;
+    };
     let mut part = Part::Numbers;
-    let mut left = &a[1..];
-    let mut right = &b[1..];
+    let mut left = release;
+    let mut right = other;
     loop {
         let p = next_piece(left, part);
         let q = next_piece(right, part);

@@ -1,8 +1,10 @@
 -- The turns of a walk, as the code takes them. Assumes nothing.
-use Rattle.std.proofs.Common.{◌≡◌, ℕ, zero, suc, ◌+◌, ◌-◌, ◌<◌, ◌≤◌, true, not, List, [], ◌∷◌, length, get_or, Some, Ok, Err, Result, sym, refl, ap, ◌∙◌, subst, ⊎_elim, arith, MatchResult}
+use Rattle.std.proofs.Common.{◌≡◌, ℕ, zero, suc, ◌+◌, ◌-◌, ◌<◌, ◌≤◌, Bool, true, false, not, List, [], ◌∷◌, length, get_or, Option, IsSome, Some, None, Ok, Err, Result, sym, refl, ap, ◌∙◌, subst, ⊎_elim, arith, MatchResult}
 use Rattle.std.specs.List.{slice_get, AllByRecursion}
+use Rattle.std.specs.Bool.{then_some}
+use Rattle.std.specs.Option.{option_map, option_and_then}
 use Rattle.std.proofs.lemmas.List.{take_all}
-use Rattle.std.proofs.lemmas.Option.{slice_get-get_or}
+use Rattle.std.proofs.lemmas.Option.{slice_get-get_or, slice_get-map}
 use Rattle.std.specs.Result.{IsErrAnd}
 use Rattle.std.proofs.lemmas.Result.{err_from_is_err_and}
 use Rattle.rules.proofs.Each.{each_filtered}
@@ -20,7 +22,9 @@ use Rattle.rules.proofs.Turns.{written_longer, walk_done, walk_stops, walk_fills
 use Rattle.causes.specs.Told.{refusal_of}
 use Rattle.causes.specs.declared.refusal.Refusal.{Refusal}
 use Rattle.walks.specs.Sheets.{EndsAs}
-use Rattle.walks.specs.Views.{Formed}
+use Rattle.walks.specs.Views.{Formed, module_version_at}
+use Rattle.modules.specs.Rows.{names_of}
+use Rattle.modules.specs.declared.rows.ModuleVersion as V
 use Rattle.walks.proofs.Telling.{ok_ended, err_ended, ends_by, ends_done}
 
 -- what was answered, by the same answer with another error
@@ -49,6 +53,30 @@ pub place_of_row : (sheet : List R.Place) (i : ℕ) (x : ModuleVersion) → slic
 place_of_row [] i x e = let z : ◌≡◌ {A = ℕ} 0 1 = cc in absurd (omega arith)
 place_of_row (r ∷ rs) zero x e = (r, refl, cc)
 place_of_row (r ∷ rs) (suc i) x e = place_of_row rs i x e
+
+-- a place of a well formed sheet has a module version
+pub formed_there : (sheet : List R.Place) (i : ℕ) → 1 ≤ i → i < length sheet → Formed sheet → (o : Option V.ModuleVersion) → option_map names_of o ≡ module_version_at sheet i → IsSome o
+formed_there sheet i one within f o e =
+    let r = get_or sheet i blank_place in
+    let there : slice_get sheet i ≡ Some r = slice_get-get_or sheet i blank_place within in
+    let row : slice_get (module_versions sheet) i ≡ Some r.row = slice_get-map (λ p. p.row) sheet i ∙ ap (option_map (λ p. p.row)) there in
+    go o (e ∙ ap (option_and_then (λ x. then_some (is_module_version x) x)) row ∙ ap (λ b. then_some b r.row) (f i r one there))
+  where
+    go : (p : Option V.ModuleVersion) {x : ModuleVersion} → option_map names_of p ≡ Some x → IsSome p
+    go (Some m) e = refl
+    go None e = let z : ◌≡◌ {A = ℕ} 0 1 = cc in absurd (omega arith)
+
+-- the module version that is given stands at the place
+pub given_there : (sheet : List R.Place) (i : ℕ) (o : Option V.ModuleVersion) (m : V.ModuleVersion) → option_map names_of o ≡ module_version_at sheet i → o ≡ Some m → slice_get (module_versions sheet) i ≡ Some (names_of m)
+given_there sheet i o m e is = go (slice_get (module_versions sheet) i) (sym e ∙ ap (option_map names_of) is)
+  where
+    made : (b : Bool) (x y : ModuleVersion) → then_some b x ≡ Some y → Some x ≡ Some y
+    made true x y e = e
+    made false x y e = let z : ◌≡◌ {A = ℕ} 0 1 = cc in absurd (omega arith)
+
+    go : (p : Option ModuleVersion) → option_and_then (λ x. then_some (is_module_version x) x) p ≡ Some (names_of m) → p ≡ Some (names_of m)
+    go (Some x) k = made (is_module_version x) x (names_of m) k
+    go None k = k
 
 -- a place is questioned by the row that is told
 pub asked_of : (ask : ModuleVersion → Answer (List ModuleVersion)) (next : List R.Place → Walked) (i : ℕ) (sheet : List R.Place) (x : ModuleVersion) → slice_get (module_versions sheet) i ≡ Some x

@@ -76,7 +76,8 @@ pub fn list<S: Source>(
         blank_from(list, 0, Row::blank());
         return Err(Refusal::from(Cause::SliceTooShort));
     }
-    let mut places = Sheet::begin(sheet, main);
+    let mut places = Filling::empty(sheet);
+    places.begin(main);
     let mut rows = Filling::empty(list);
     let counts = walk_and_list(source, main, start, &mut places, &mut rows);
     places.blank_behind(Place::blank());

@@ -1,6 +1,7 @@
 // The sheet of a walk: at most 256 places in a lent slice. A row is written behind the places that there are, unless it is on the main path or
 // on the sheet already.
 ghost use Rattle.std.specs.Prelude.{◌≡◌, ◌<◌, ◌≤◌, [], ◌∷◌, map, length, IfOk, Some};
+ghost use Rattle.std.specs.Option.{option_map};
 ghost use Rattle.std.specs.List.{slice_get};
 ghost use Rattle.rules.specs.Names.{same, same_path};
 ghost use Rattle.rules.specs.Projects.{off_main};
@@ -9,7 +10,7 @@ ghost use Rattle.names.specs.Paths.{path_bytes};
 ghost use Rattle.modules.specs.Rows.{row_names, names_of};
 ghost use Rattle.walks.specs.Places.{place_of, place_in};
 ghost use Rattle.walks.specs.Sheets.{sheet_of, EndsAs};
-ghost use Rattle.walks.specs.Views.{bare, Formed};
+ghost use Rattle.walks.specs.Views.{bare, module_version_at};
 
 use crate::as_row::AsRow;
 use crate::filling::Filling;
@@ -47,18 +48,16 @@ pub fn find_row(sheet: &[Place], row: &Row) -> Option<usize>
 pub type Sheet<'a> = Filling<'a, Place>;
 
 impl<'a> Filling<'a, Place> {
-    // The main row alone.
-    pub fn begin(places: &'a mut [Place], main: &Path) -> Sheet<'a>
-        requires { 256 ≤ length places.old }
-        ensures value { sheet_of result ≡ first_sheet (bare (path_bytes main.now)) }
-        ensures same_reference { result.items.ghost_name ≡ places.entry.ghost_name }
+    // The main row alone, whatever was written before.
+    pub fn begin(&mut self, main: &Path)
+        ensures value { sheet_of self.new ≡ first_sheet (bare (path_bytes main.now)) }
+        ensures same_reference { self.new.items.ghost_name ≡ self.old.items.ghost_name }
     {
-        let mut sheet = Filling::empty(places);
-        sheet.push(Place {
+        self.count = 0;
+        self.push(Place {
             row: main_row(main),
             from: 0,
         });
-        sheet
     }
 
     // The place at which a row stands: where it is on the sheet already, or else behind the others.
@@ -105,13 +104,10 @@ impl<'a> Filling<'a, Place> {
         Ok(())
     }
 
-    // The module version at a place behind the main row.
-    // Kept: that the rows are formed is asked, and no fact of the type, since a row is written before it is known to be well formed.
-    pub fn module_version(&self, at: usize) -> ModuleVersion
-        requires place { (1 ≤ at) × (at < length (sheet_of self.now)) }
-        requires formed { Formed (sheet_of self.now) }
-        ensures value { slice_get (module_versions (sheet_of self.now)) at ≡ Some (names_of result) }
+    // The module version at a place, if there is one.
+    pub fn module_version(&self, at: usize) -> Option<ModuleVersion>
+        ensures value { option_map names_of result ≡ module_version_at (sheet_of self.now) at }
     {
-        self.as_slice()[at].row.checked()
+        self.as_slice().get(at)?.row.check()
     }
 }

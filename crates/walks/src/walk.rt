@@ -31,7 +31,8 @@ pub fn refused_at(at: usize, fault: Fault) -> Refusal
 }
 
 // Questions a place, and writes what it requires.
-// Kept: the source, the main path and the sheet are passed. In a struct each would need a clause that its reference stays the same.
+// Kept: the source, the main path and the sheet are passed. In a struct each would need a clause that its reference stays the same. That the rows are
+// formed is asked, and no fact of the type, since a row is written before it is known to be well formed.
 fn question<S: Source>(
     source: &mut S,
     main: &Path,
@@ -45,7 +46,7 @@ fn question<S: Source>(
     ensures value { EndsAs (asked_at (seen_by (path_bytes main.now) (S.Source.meaning source.old)) at (sheet_of sheet.old)) result (sheet_of sheet.new) }
     ensures same_reference { sheet.new.items.ghost_name ≡ sheet.old.items.ghost_name }
 {
-    let of = sheet.module_version(at);
+    let of = sheet.module_version(at).unwrap();
     let mut rows = [Row::blank(); 64];
     let found = source
         .requirements(&of, &mut rows)

@@ -12,8 +12,8 @@ fn spread_along(marked: &mut [bool], edge: &Edge) -> bool
     ensures value { result ≡ (mark_at marked.old edge.now.to && not (mark_at marked.old edge.now.from)) }
     ensures marks { marked.new ≡ (if result then written_at marked.old edge.now.from true else marked.old) }
 {
-    if marked[edge.to] && !marked[edge.from] {
-        marked[edge.from] = true;
+    if marked[edge.to as usize] && !marked[edge.from as usize] {
+        marked[edge.from as usize] = true;
         return true;
     }
     false

@@ -35,10 +35,14 @@ impl Learned {
 
     // One edge more.
     pub(crate) fn add(&mut self, from: usize, to: usize)
-        requires { length (edges_in self.old) < 16384 }
+        requires room { length (edges_in self.old) < 16384 }
+        requires places { (from < 256) × (to < 256) }
         ensures marks { self.new.marked ≡ self.old.marked }
         ensures edges { edges_in self.new ≡ edges_in self.old ++ record { from = from; to = to } ∷ [] }
     {
-        self.edges.push(Edge { from, to });
+        self.edges.push(Edge {
+            from: from as u8,
+            to: to as u8,
+        });
     }
 }

@@ -2,7 +2,7 @@
 ghost use Rattle.std.specs.Prelude.{◌≡◌, ◌<◌, true, false, map, length, set, is_ok, slice_index_or, slice_set};
 ghost use Rattle.std.specs.Option.{option_map};
 ghost use Rattle.std.specs.Ordering.{is_le};
-ghost use Rattle.ordered.specs.Held.{fitting};
+ghost use Rattle.ordered.specs.Held.{held, fitting};
 ghost use Rattle.rules.specs.Rows.{with_row, table};
 ghost use Rattle.rules.specs.Versions.{version_order};
 ghost use Rattle.modules.specs.Raised.{raise_told};
@@ -42,8 +42,8 @@ impl Row {
 impl Requirements {
     // Sets the row at a place, which is of the same path: it is changed in a copy of the rows, and the table then written whole.
     fn lift(&mut self, at: usize, row: Row)
-        requires { (at < length self.old.table) × ((slice_index_or self.old.table at row).path ≡ row.path) }
-        ensures after { self.new.table ≡ slice_set self.old.table at row }
+        requires { (at < length (held self.old.table)) × ((slice_index_or (held self.old.table) at row).path ≡ row.path) }
+        ensures after { held self.new.table ≡ slice_set (held self.old.table) at row }
     {
         let mut rows = self.table.items();
         rows[at].lift(row.version);

@@ -6,12 +6,11 @@ ghost use Rattle.modules.specs.ModuleVersionOrderedLemmas;
 
 use super::{ModuleVersion, Row};
 use names::path::PlainPath;
-use ordered::order::{Keyed, Ordered};
+use ordered::order::{Compared, Keyed, Ordered};
+use std::cmp::Ordering;
 
 impl Ordered for Row {
     ghost order = { row_order };
-
-    ghost compared = { λ x y. refl };
 
     ghost total = { (RowOrderedLemmas.laws).total };
 
@@ -20,12 +19,18 @@ impl Ordered for Row {
     ghost transitive = { (RowOrderedLemmas.laws).transitive };
 
     ghost mirrored = { (RowOrderedLemmas.laws).mirrored };
+
+    fn compare(&self, other: &Row) -> Ordering {
+        self.cmp(other)
+    }
+}
+
+impl Compared for Row {
+    ghost compared = { λ x y. refl };
 }
 
 impl Ordered for ModuleVersion {
     ghost order = { module_version_order };
-
-    ghost compared = { λ x y. refl };
 
     ghost total = { (ModuleVersionOrderedLemmas.laws).total };
 
@@ -34,6 +39,14 @@ impl Ordered for ModuleVersion {
     ghost transitive = { (ModuleVersionOrderedLemmas.laws).transitive };
 
     ghost mirrored = { (ModuleVersionOrderedLemmas.laws).mirrored };
+
+    fn compare(&self, other: &ModuleVersion) -> Ordering {
+        self.cmp(other)
+    }
+}
+
+impl Compared for ModuleVersion {
+    ghost compared = { λ x y. refl };
 }
 
 impl Keyed<PlainPath> for Row {

@@ -7,7 +7,7 @@ ghost use Rattle.names.specs.FormedLemmas.{plain_laws, formed_laws, plain_total,
 
 use super::{Formed, Plain};
 use crate::grammar::Grammar;
-use ordered::order::Ordered;
+use ordered::order::{Compared, Ordered};
 use std::cmp::Ordering;
 
 impl<G: Grammar> Ord for Plain<G> {
@@ -37,8 +37,6 @@ impl<G: Grammar> PartialOrd for Plain<G> {
 impl<G: Grammar> Ordered for Plain<G> {
     ghost order = { plain_order G.order };
 
-    ghost compared = { λ x y. refl };
-
     ghost total = { (plain_laws G.lawful).total };
 
     ghost antisymmetric = { (plain_laws G.lawful).antisymmetric };
@@ -46,6 +44,14 @@ impl<G: Grammar> Ordered for Plain<G> {
     ghost transitive = { (plain_laws G.lawful).transitive };
 
     ghost mirrored = { (plain_laws G.lawful).mirrored };
+
+    fn compare(&self, other: &Plain<G>) -> Ordering {
+        self.cmp(other)
+    }
+}
+
+impl<G: Grammar> Compared for Plain<G> {
+    ghost compared = { λ x y. refl };
 }
 
 impl<G: Grammar> Ord for Formed<G> {
@@ -75,8 +81,6 @@ impl<G: Grammar> PartialOrd for Formed<G> {
 impl<G: Grammar> Ordered for Formed<G> {
     ghost order = { formed_order G.order };
 
-    ghost compared = { λ x y. refl };
-
     ghost total = { (formed_laws G.lawful).total };
 
     ghost antisymmetric = { (formed_laws G.lawful).antisymmetric };
@@ -84,4 +88,12 @@ impl<G: Grammar> Ordered for Formed<G> {
     ghost transitive = { (formed_laws G.lawful).transitive };
 
     ghost mirrored = { (formed_laws G.lawful).mirrored };
+
+    fn compare(&self, other: &Formed<G>) -> Ordering {
+        self.cmp(other)
+    }
+}
+
+impl<G: Grammar> Compared for Formed<G> {
+    ghost compared = { λ x y. refl };
 }

@@ -2,7 +2,7 @@
 ghost use Rattle.std.specs.Prelude.{◌≡◌, ◌≤◌, true, false, length, is_some, is_ok, nat_lt};
 ghost use Rattle.rules.specs.Tables.{keep, lookup, entered, removed};
 ghost use Rattle.ordered.specs.Ascents.{is_ascending};
-ghost use Rattle.ordered.specs.Held.{admitted, give};
+ghost use Rattle.ordered.specs.Held.{held, admitted, give};
 
 use super::{NotInserted, Table};
 use crate::order::{Keyed, Ordered};
@@ -13,11 +13,11 @@ impl<T: Copy, const N: usize> Table<T, N> {
     pub fn insert<K: Ordered>(&mut self, item: T) -> Result<(), NotInserted>
     where
         T: Keyed<K>,
-        ensures value { result ≡ admitted (lookup T.Keyed.keyed K.Ordered.order (T.Keyed.keyed item) self.old) (nat_lt (length self.old) N) }
-        ensures after { is_ok result ≡ true → self.new ≡ entered T.Keyed.keyed K.Ordered.order keep item self.old }
+        ensures value { result ≡ admitted (lookup T.Keyed.keyed K.Ordered.order (T.Keyed.keyed item) (held self.old)) (nat_lt (length (held self.old)) N) }
+        ensures after { is_ok result ≡ true → held self.new ≡ entered T.Keyed.keyed K.Ordered.order keep item (held self.old) }
         ensures refused { is_ok result ≡ false → self.new ≡ self.old }
-        ensures ascending { is_ascending T.Keyed.keyed K.Ordered.order self.old ≡ true → is_ascending T.Keyed.keyed K.Ordered.order self.new ≡ true }
-        ensures fits { length self.new ≤ N }
+        ensures ascending { is_ascending T.Keyed.keyed K.Ordered.order (held self.old) ≡ true → is_ascending T.Keyed.keyed K.Ordered.order (held self.new) ≡ true }
+        ensures fits { length (held self.new) ≤ N }
     {
         let Err(at) = self.place(item.key()) else {
             return Err(NotInserted::Present);
@@ -34,11 +34,11 @@ impl<T: Copy, const N: usize> Table<T, N> {
     pub fn replace<K: Ordered>(&mut self, item: T) -> Option<T>
     where
         T: Keyed<K>,
-        ensures value { result ≡ lookup T.Keyed.keyed K.Ordered.order (T.Keyed.keyed item) self.old }
-        ensures after { is_some result ≡ true → self.new ≡ entered T.Keyed.keyed K.Ordered.order give item self.old }
+        ensures value { result ≡ lookup T.Keyed.keyed K.Ordered.order (T.Keyed.keyed item) (held self.old) }
+        ensures after { is_some result ≡ true → held self.new ≡ entered T.Keyed.keyed K.Ordered.order give item (held self.old) }
         ensures same { is_some result ≡ false → self.new ≡ self.old }
-        ensures ascending { is_ascending T.Keyed.keyed K.Ordered.order self.old ≡ true → is_ascending T.Keyed.keyed K.Ordered.order self.new ≡ true }
-        ensures fits { length self.new ≤ N }
+        ensures ascending { is_ascending T.Keyed.keyed K.Ordered.order (held self.old) ≡ true → is_ascending T.Keyed.keyed K.Ordered.order (held self.new) ≡ true }
+        ensures fits { length (held self.new) ≤ N }
     {
         let at = self.place(item.key()).ok()?;
         let old = self.items[at];
@@ -50,11 +50,11 @@ impl<T: Copy, const N: usize> Table<T, N> {
     pub fn remove<K: Ordered>(&mut self, key: &K) -> Option<T>
     where
         T: Keyed<K>,
-        ensures value { result ≡ lookup T.Keyed.keyed K.Ordered.order key.now self.old }
-        ensures after { self.new ≡ removed T.Keyed.keyed K.Ordered.order key.now self.old }
+        ensures value { result ≡ lookup T.Keyed.keyed K.Ordered.order key.now (held self.old) }
+        ensures after { held self.new ≡ removed T.Keyed.keyed K.Ordered.order key.now (held self.old) }
         ensures same { is_some result ≡ false → self.new ≡ self.old }
-        ensures ascending { is_ascending T.Keyed.keyed K.Ordered.order self.old ≡ true → is_ascending T.Keyed.keyed K.Ordered.order self.new ≡ true }
-        ensures fits { length self.new ≤ N }
+        ensures ascending { is_ascending T.Keyed.keyed K.Ordered.order (held self.old) ≡ true → is_ascending T.Keyed.keyed K.Ordered.order (held self.new) ≡ true }
+        ensures fits { length (held self.new) ≤ N }
     {
         let at = self.place(key).ok()?;
         let old = self.items[at];

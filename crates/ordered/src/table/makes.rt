@@ -1,8 +1,9 @@
 // Tables made: empty, as another is, of other items, and of two.
 ghost use Rattle.std.specs.Prelude.{◌≡◌, ◌≤◌, true, [], length, take, IfSome};
+ghost use Rattle.std.specs.Option.{option_map};
 ghost use Rattle.rules.specs.Tables.{joined};
 ghost use Rattle.ordered.specs.Ascents.{is_ascending};
-ghost use Rattle.ordered.specs.Held.{fitting};
+ghost use Rattle.ordered.specs.Held.{held, fitting};
 
 use super::{NotInserted, Table};
 use crate::order::{Keyed, Ordered};
@@ -10,7 +11,7 @@ use crate::order::{Keyed, Ordered};
 impl<T: Copy, const N: usize> Table<T, N> {
     // An empty table; `blank` stands in its places until they are taken.
     pub fn new(blank: T) -> Table<T, N>
-        ensures value { result ≡ [] }
+        ensures value { held result ≡ [] }
     {
         Table {
             items: [blank; N],
@@ -21,7 +22,7 @@ impl<T: Copy, const N: usize> Table<T, N> {
     // Kept: `Copy` wants a view that gives the places behind the items back, and `clone` may fail.
     pub fn copy(&self) -> Table<T, N>
         ensures value { result ≡ self.now }
-        ensures fits { length result ≤ N }
+        ensures fits { length (held result) ≤ N }
     {
         Table {
             items: self.items,
@@ -31,16 +32,17 @@ impl<T: Copy, const N: usize> Table<T, N> {
 
     // A copy of its places: its items, and behind them what says nothing.
     pub fn items(&self) -> [T; N]
-        ensures items { take (length self.now) result ≡ self.now }
+        ensures items { take (length (held self.now)) result ≡ held self.now }
         ensures len { length result ≡ N }
+        ensures fits { length (held self.now) ≤ N }
     {
         self.items
     }
 
     // A table of as many items as this has, the first ones of an array.
     pub fn with_items(&self, items: [T; N]) -> Table<T, N>
-        ensures value { result ≡ take (length self.now) items }
-        ensures fits { length result ≤ N }
+        ensures value { held result ≡ take (length (held self.now)) items }
+        ensures fits { length (held result) ≤ N }
     {
         let count = self.count;
         Table { items, count }
@@ -50,9 +52,9 @@ impl<T: Copy, const N: usize> Table<T, N> {
     pub fn join<K: Ordered>(&self, other: &[T]) -> Option<Table<T, N>>
     where
         T: Keyed<K>,
-        ensures value { result ≡ fitting N (joined T.Keyed.keyed K.Ordered.order self.now other.now) }
-        ensures ascending { is_ascending T.Keyed.keyed K.Ordered.order self.now ≡ true → IfSome result (λ t. is_ascending T.Keyed.keyed K.Ordered.order t ≡ true) }
-        ensures fits { IfSome result (λ t. length t ≤ N) }
+        ensures value { option_map held result ≡ fitting N (joined T.Keyed.keyed K.Ordered.order (held self.now) other.now) }
+        ensures ascending { is_ascending T.Keyed.keyed K.Ordered.order (held self.now) ≡ true → IfSome result (λ t. is_ascending T.Keyed.keyed K.Ordered.order (held t) ≡ true) }
+        ensures fits { IfSome result (λ t. length (held t) ≤ N) }
     {
         let mut all = self.copy();
         for item in other {

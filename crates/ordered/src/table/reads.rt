@@ -2,6 +2,7 @@
 ghost use Rattle.std.specs.Prelude.{◌≡◌, ◌<◌, ◌≤◌, length, MatchResult};
 ghost use Rattle.std.specs.Option.{option_map};
 ghost use Rattle.rules.specs.Tables.{lookup};
+ghost use Rattle.ordered.specs.Held.{held};
 ghost use Rattle.ordered.specs.Places.{sought};
 
 use super::Table;
@@ -10,14 +11,14 @@ use crate::slices::search;
 
 impl<T, const N: usize> Table<T, N> {
     pub fn len(&self) -> usize
-        ensures value { result ≡ length self.now }
+        ensures value { result ≡ length (held self.now) }
         ensures fits { result ≤ N }
     {
         self.count
     }
 
     pub fn as_slice(&self) -> &[T]
-        ensures value { result.now ≡ self.now }
+        ensures value { result.now ≡ held self.now }
         ensures fits { length result.now ≤ N }
     {
         &self.items[..self.count]
@@ -27,8 +28,9 @@ impl<T, const N: usize> Table<T, N> {
     pub(super) fn place<K: Ordered>(&self, key: &K) -> Result<usize, usize>
     where
         T: Keyed<K>,
-        ensures items { MatchResult result (λ i. i < length self.now) (λ i. i ≤ length self.now) }
-        ensures value { result ≡ sought T.Keyed.keyed K.Ordered.order key.now self.now }
+        ensures items { MatchResult result (λ i. i < length (held self.now)) (λ i. i ≤ length (held self.now)) }
+        ensures value { result ≡ sought T.Keyed.keyed K.Ordered.order key.now (held self.now) }
+        ensures fits { length (held self.now) ≤ N }
     {
         search(self.as_slice(), key)
     }
@@ -37,7 +39,8 @@ impl<T, const N: usize> Table<T, N> {
     pub fn lookup<K: Ordered>(&self, key: &K) -> Option<&T>
     where
         T: Keyed<K>,
-        ensures value { option_map (λ x. x.now) result ≡ lookup T.Keyed.keyed K.Ordered.order key.now self.now }
+        ensures value { option_map (λ x. x.now) result ≡ lookup T.Keyed.keyed K.Ordered.order key.now (held self.now) }
+        ensures fits { length (held self.now) ≤ N }
     {
         let i = self.place(key).ok()?;
         Some(&self.as_slice()[i])

@@ -7,7 +7,7 @@ ghost use Rattle.modules.specs.Tables.{exclusion_names};
 ghost use Rattle.project.specs.States.{main_state};
 
 use super::MainModule;
-use arrayvec::ArrayVec;
+use super::start::Start;
 use layers::exclusions::is_excluded;
 use modules::exclusions::Exclusions;
 use modules::requirements::Requirements;
@@ -38,15 +38,17 @@ impl MainModule {
     }
 
     // The rows that are not excluded, as module versions.
-    pub(crate) fn start(&self, exclusions: &Exclusions) -> ArrayVec<ModuleVersion, 256>
-        ensures value { map names_of result.items ≡ included (exclusion_names exclusions.now) (main_state self.now []).rows }
+    pub(crate) fn start(&self, exclusions: &Exclusions) -> Start
+        ensures value { map names_of result ≡ included (exclusion_names exclusions.now) (main_state self.now []).rows }
     {
-        let mut start = ArrayVec::new();
+        let mut rows = [ModuleVersion::default(); 256];
+        let mut count = 0;
         for row in self.requirements.as_slice() {
             if !is_excluded(exclusions, row) {
-                start.push(row.checked());
+                rows[count] = row.checked();
+                count += 1;
             }
         }
-        start
+        Start { rows, count }
     }
 }

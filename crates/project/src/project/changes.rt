@@ -48,7 +48,6 @@ impl<S: Source> Project<S> {
         ensures value { changed result (state_of self.new) ≡ does (pile_of S.Source.meaning self.old) (state_of self.old) (exclude_call (names_of of.now)) }
         ensures same { self.new.layer.below ≡ self.old.layer.below }
     {
-        self.layer.exclude(of.row())?;
-        Ok(())
+        self.layer.exclude(of.row()).map_err(Refusal::from)
     }
 }

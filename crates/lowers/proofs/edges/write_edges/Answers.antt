@@ -10,10 +10,10 @@ use Rattle.lowers.specs.Learned.{edges_in}
 use Rattle.lowers.proofs.Edging.{upto_short, edges_turn}
 use Rattle.lowers.proofs.edges.write_edges.Goals as goal
 
-pub write_edge-requires : goal.write_edge-requires
-write_edge-requires c =
+pub write_edge-requires-clause-room : goal.write_edge-requires-clause-room
+write_edge-requires-clause-room c =
     let (named, so_far, marks, edged) = c.loop-row.invariant in
-    omega (arith, c.requires, edged.few, upto_short (path_bytes c.args.main.now) c.args.at c.args.rows.now c.loop-row.row-index, c.loop-row-test.true)
+    omega (arith, c.requires.room, edged.few, upto_short (path_bytes c.args.main.now) c.args.at c.args.rows.now c.loop-row.row-index, c.loop-row-test.true)
 
 pub loop-row-preserved : goal.loop-row-preserved
 loop-row-preserved c =

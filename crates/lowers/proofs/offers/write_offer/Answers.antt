@@ -45,4 +45,4 @@ returns-clause-value g c =
     let told = ap answer_of (sym (was_ok _ c.versions.result c.map_err.result c.map_err.ensures.cases c.in_ok-found.found c.in_ok-found.was)) ∙ c.versions.ensures.value in
     let a = found_told plain_version_bytes blank_version (length (replicate 64 c.blank-versions.result)) c.in_ok-found.found.count (m.listing p) c.versions.new.versions all (told, c.versions.ensures.items) in
     ends_by _ _ c.write_versions.result (sheet_of c.write_versions.new.sheet)
-    (ap (λ (b : Bytes). offer_written (ended done) k s (m.listing b)) (sym c.checked_path-of.ensures.value) ∙ ap (offer_written (ended done) k s) a) c.write_versions.ensures.value
+    (ap (λ (b : Bytes). offer_written (ended done) k s (m.listing b)) (sym c.checked_path-of.ensures.value) ∙ ap (offer_written (ended done) k s) a ∙ search rules) c.write_versions.ensures.value

@@ -14,11 +14,17 @@ use Rattle.walks.specs.Sheets.{sheet_of}
 use Rattle.walks.specs.Views.{seen_by}
 use Rattle.walks.proofs.Fillings.{sheet_short}
 use Rattle.walks.proofs.Telling.{ends_by, ends_done}
-use Rattle.walks.proofs.Walking.{ends_fault}
+use Rattle.walks.proofs.Walking.{formed_there, given_there, ends_fault}
 use Rattle.lowers.specs.Ceilings.{ceiling_rows}
 use Rattle.lowers.proofs.Edging.{off_short, knows_bad}
 use Rattle.lowers.proofs.Asking.{here_found, here_missing, here_fault, bad_missing, learned_list}
 use Rattle.lowers.proofs.walk.ask_place.Goals as goal
+
+pub write_edges-requires-clause-place : goal.write_edges-requires-clause-place
+write_edges-requires-clause-place g c = omega (arith, c.requires.place, sheet_short c.args.sheet.now)
+
+pub unwrap-of-requires : goal.unwrap-of-requires
+unwrap-of-requires g c = formed_there (sheet_of c.args.sheet.now) c.args.at c.requires.place.0 c.requires.place.1 c.requires.formed c.module_version.result c.module_version.ensures.value
 
 pub returns-in-Ok-clause-value : goal.returns-in-Ok-clause-value
 returns-in-Ok-clause-value g c =
@@ -27,8 +33,8 @@ returns-in-Ok-clause-value g c =
     let w = seen_by (path_bytes c.args.main.now) m in
     let cs = ceiling_rows c.args.ceilings.now in
     let s = sheet_of c.args.sheet.now in
-    let x = names_of c.module_version-of.result in
-    let there = c.module_version-of.ensures.value in
+    let x = names_of c.unwrap-of.result in
+    let there = given_there s i c.module_version.result c.unwrap-of.result c.module_version.ensures.value c.unwrap-of.ensures in
     let all : 64 ≤ length (replicate 64 c.blank-rows.result) = omega (arith, length-replicate 64 c.blank-rows.result) in
     let rows = c.requirements.new.rows in
     let a = found_told row_names blank (length (replicate 64 c.blank-rows.result)) c.in-Ok.found.count (m.requirements x) rows all (c.in-Ok.ensures.value, c.in-Ok.ensures.items) in
@@ -42,8 +48,8 @@ returns-in-Ok-clause-learned g c =
     let w = seen_by main m in
     let cs = ceiling_rows c.args.ceilings.now in
     let s = sheet_of c.args.sheet.now in
-    let x = names_of c.module_version-of.result in
-    let there = c.module_version-of.ensures.value in
+    let x = names_of c.unwrap-of.result in
+    let there = given_there s i c.module_version.result c.unwrap-of.result c.module_version.ensures.value c.unwrap-of.ensures in
     let all : 64 ≤ length (replicate 64 c.blank-rows.result) = omega (arith, length-replicate 64 c.blank-rows.result) in
     let k = c.in-Ok.found.count in
     let rows = c.requirements.new.rows in
@@ -62,8 +68,8 @@ returns-in-Err-clause-value g c =
     let cs = ceiling_rows c.args.ceilings.now in
     let s = sheet_of c.args.sheet.now in
     let short = sheet_short c.args.sheet.now in
-    let x = names_of c.module_version-of.result in
-    let there = c.module_version-of.ensures.value in
+    let x = names_of c.unwrap-of.result in
+    let there = given_there s i c.module_version.result c.unwrap-of.result c.module_version.ensures.value c.unwrap-of.ensures in
     let all : 64 ≤ length (replicate 64 c.blank-rows.result) = omega (arith, length-replicate 64 c.blank-rows.result) in
     let f = fault_of c.in-Err.fault in
     let a = fault_told row_names blank (length (replicate 64 c.blank-rows.result)) f (m.requirements x) c.requirements.new.rows all (c.in-Err.ensures.value, c.in-Err.ensures.items) in
@@ -76,12 +82,12 @@ returns-in-Err-clause-learned g c =
     let w = seen_by (path_bytes c.args.main.now) m in
     let cs = ceiling_rows c.args.ceilings.now in
     let s = sheet_of c.args.sheet.now in
-    let x = names_of c.module_version-of.result in
+    let x = names_of c.unwrap-of.result in
     let all : 64 ≤ length (replicate 64 c.blank-rows.result) = omega (arith, length-replicate 64 c.blank-rows.result) in
     let f = fault_of c.in-Err.fault in
     let a = fault_told row_names blank (length (replicate 64 c.blank-rows.result)) f (m.requirements x) c.requirements.new.rows all (c.in-Err.ensures.value, c.in-Err.ensures.items) in
     let wide : i < length c.args.learned.now.marked = omega (arith, c.args.learned.now.wide, c.requires.place, sheet_short c.args.sheet.now) in
-    knows_bad w cs s c.args.learned.now c.mark.new.self i x c.requires.knows c.module_version-of.ensures.value (bad_missing w cs x f a (sym c.if-is_missing.ensures.value)) wide c.mark.ensures.marks c.mark.ensures.edges
+    knows_bad w cs s c.args.learned.now c.mark.new.self i x c.requires.knows (given_there s i c.module_version.result c.unwrap-of.result c.module_version.ensures.value c.unwrap-of.ensures) (bad_missing w cs x f a (sym c.if-is_missing.ensures.value)) wide c.mark.ensures.marks c.mark.ensures.edges
 
 pub returns-in-Err-2-clause-value : goal.returns-in-Err-2-clause-value
 returns-in-Err-2-clause-value g c =
@@ -90,8 +96,8 @@ returns-in-Err-2-clause-value g c =
     let w = seen_by (path_bytes c.args.main.now) m in
     let cs = ceiling_rows c.args.ceilings.now in
     let s = sheet_of c.args.sheet.now in
-    let x = names_of c.module_version-of.result in
-    let there = c.module_version-of.ensures.value in
+    let x = names_of c.unwrap-of.result in
+    let there = given_there s i c.module_version.result c.unwrap-of.result c.module_version.ensures.value c.unwrap-of.ensures in
     let all : 64 ≤ length (replicate 64 c.blank-rows.result) = omega (arith, length-replicate 64 c.blank-rows.result) in
     let f = fault_of c.in-Err.fault in
     let a = fault_told row_names blank (length (replicate 64 c.blank-rows.result)) f (m.requirements x) c.requirements.new.rows all (c.in-Err.ensures.value, c.in-Err.ensures.items) in

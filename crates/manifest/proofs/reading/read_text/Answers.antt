@@ -1,5 +1,5 @@
 -- All lines are read. Assumes nothing.
-use Rattle.std.proofs.Common.{◌≡◌, length, ap, ◌∙◌, ap₂, rules}
+use Rattle.std.proofs.Common.{◌≡◌, length, ap, ◌∙◌, ap₂, arith, rules}
 use Rattle.std.specs.Option.{option_map}
 use Rattle.rules.specs.Lines.{lines}
 use Rattle.rules.specs.Manifests.{Reading, unbegun, lines_read, at_end}
@@ -21,8 +21,9 @@ returns c =
     let es = c.read_lines.new.excluded in
     let all : Reading = lines_read most 0 unbegun ls in
     let none = none_read required.result excluded.result required.ensures.value.0 excluded.ensures.value.0 in
+    let most_so : required.result.most ≡ most = omega (arith, required.ensures.value.1) in
     let same : reading_told (at_end (view p rs es)) ≡ reading_told all =
-    c.in_ok-read_lines.ensures.value ∙ ap₂ (λ n q. reading_told (lines_read n 0 q ls)) required.ensures.value.1 none
+    c.in_ok-read_lines.ensures.value ∙ ap₂ (λ n q. reading_told (lines_read n 0 q ls)) most_so none
     in
     let told : outcome c.finish.result ≡ finish_of (option_map verb_told p.block) (option_map path_bytes p.main) rs.count es.count =
     c.finish.ensures.value ∙ ap₂ (finish_of (option_map verb_told p.block) (option_map path_bytes p.main)) c.count.ensures.value c.count-2.ensures.value

@@ -8,4 +8,4 @@ pub returns : goal.returns
 returns c =
     let a = c.args.a.now in
     let b = c.args.b.now in
-    c.then.ensures ∙ numbers_ordered a b c.requires.0 c.requires.1 c.cmp.result c.cmp-2.result (ranked (length a) (length b) c.cmp.result c.cmp.ensures) (cmp_dictionary a b c.cmp-2.result c.cmp-2.ensures)
+    λ t u. c.then.ensures ∙ numbers_ordered a b t u c.cmp.result c.cmp-2.result (ranked (length a) (length b) c.cmp.result c.cmp.ensures) (cmp_dictionary a b c.cmp-2.result c.cmp-2.ensures)

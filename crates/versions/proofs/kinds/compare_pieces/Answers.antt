@@ -6,6 +6,5 @@ use Rattle.versions.proofs.kinds.compare_pieces.Goals as goal
 
 pub returns-in-false-false : goal.returns-in-false-false
 returns-in-false-false c =
-    let a = as_word c.args.a.now c.requires.0 (sym c.in-false-false.ensures) in
-    let b = as_word c.args.b.now c.requires.1 (sym c.in-false-false.ensures') in
-    cmp_dictionary c.args.a.now c.args.b.now c.cmp.result c.cmp.ensures ∙ sym (ap₂ identifier_order a b)
+    λ t u. cmp_dictionary c.args.a.now c.args.b.now c.cmp.result c.cmp.ensures
+    ∙ sym (ap₂ identifier_order (as_word c.args.a.now t (sym c.in-false-false.ensures)) (as_word c.args.b.now u (sym c.in-false-false.ensures')))

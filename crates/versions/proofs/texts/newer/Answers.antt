@@ -21,12 +21,16 @@ pub returns-then-is_lt : goal.returns-then-is_lt
 returns-then-is_lt c =
     let a = c.args.a in
     let b = c.args.b in
-    let e = newer_version a.now b.now (sym c.if-not-is_version-2.ensures) (sym c.if-not-is_version.ensures) in
-    sym (cond-true (is_newer b.now a.now) b a (e ∙ ap is_lt (sym c.precedence.ensures) ∙ sym c.if-is_lt.ensures))
+    let t = sym c.if-not-is_version-2.ensures in
+    let u = sym c.if-not-is_version.ensures in
+    let e = newer_version a.now b.now t u in
+    sym (cond-true (is_newer b.now a.now) b a (e ∙ ap is_lt (sym (c.precedence.ensures t u)) ∙ sym c.if-is_lt.ensures))
 
 pub returns-else-is_lt : goal.returns-else-is_lt
 returns-else-is_lt c =
     let a = c.args.a in
     let b = c.args.b in
-    let e = newer_version a.now b.now (sym c.if-not-is_version-2.ensures) (sym c.if-not-is_version.ensures) in
-    sym (cond-false (is_newer b.now a.now) b a (e ∙ ap is_lt (sym c.precedence.ensures) ∙ sym c.if-is_lt.ensures))
+    let t = sym c.if-not-is_version-2.ensures in
+    let u = sym c.if-not-is_version.ensures in
+    let e = newer_version a.now b.now t u in
+    sym (cond-false (is_newer b.now a.now) b a (e ∙ ap is_lt (sym (c.precedence.ensures t u)) ∙ sym c.if-is_lt.ensures))

@@ -7,6 +7,6 @@ use Rattle.walks.proofs.Writing.{is_there, place_is}
 use Rattle.walks.proofs.sheet.find_row.Goals as goal
 
 pub returns : goal.returns
-returns c = record {
-  value = position_from_yields_List (is_there (row_names c.args.row.now)) _ _ _ c.position.ensures.ran (YieldsList-from_slice c.args.sheet.now cc) (λ x b q k. search (rules, tests)) ∙ place_is (row_names c.args.row.now) c.args.sheet.now;
-}
+returns c =
+    let e = position_from_yields_List (is_there (row_names c.args.row.now)) _ _ _ c.position.ensures.ran (YieldsList-from_slice c.args.sheet.now cc) (λ x b q k. search (rules, tests)) ∙ place_is (row_names c.args.row.now) c.args.sheet.now in
+    record { value = search (rules, tests, e) }

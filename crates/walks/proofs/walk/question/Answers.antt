@@ -16,15 +16,19 @@ use Rattle.walks.specs.Sheets.{sheet_of}
 use Rattle.walks.specs.Views.{seen_by}
 use Rattle.walks.proofs.Fillings.{sheet_short}
 use Rattle.walks.proofs.Telling.{ends_by}
-use Rattle.walks.proofs.Walking.{was_ok, was_err, asked_of, ends_fault}
+use Rattle.walks.proofs.Walking.{formed_there, given_there, was_ok, was_err, asked_of, ends_fault}
 use Rattle.walks.proofs.walk.question.Goals as goal
+
+pub unwrap-of-requires : goal.unwrap-of-requires
+unwrap-of-requires g c = formed_there (sheet_of c.args.sheet.now) c.args.at c.requires.place.0 c.requires.place.1 c.requires.formed c.module_version.result c.module_version.ensures.value
 
 pub returns-in_err-found-clause-value : goal.returns-in_err-found-clause-value
 returns-in_err-found-clause-value g c =
     let m = g.S.Source.meaning c.args.source.now in
     let main = path_bytes c.args.main.now in
     let s = sheet_of c.args.sheet.now in
-    let x = names_of c.module_version-of.result in
+    let x = names_of c.unwrap-of.result in
+    let there = given_there s c.args.at c.module_version.result c.unwrap-of.result c.module_version.ensures.value c.unwrap-of.ensures in
     let all : 64 ≤ length (replicate 64 c.blank-rows.result) = omega (arith, length-replicate 64 c.blank-rows.result) in
     let (fault, is, brought) = was_err _ c.requirements.result c.map_err.result c.map_err.ensures.cases c.in_err-found.field-0.0 c.in_err-found.was in
     let refused : refusal_of c.in_err-found.field-0.0 ≡ refusal_at c.args.at (fault_of fault) = search rules in
@@ -32,7 +36,7 @@ returns-in_err-found-clause-value g c =
     let a = fault_told row_names blank (length (replicate 64 c.blank-rows.result)) (fault_of fault) (m.requirements x) c.requirements.new.rows all (told, c.requirements.ensures.items) in
     let p = err_from_is_err_and c.from_residual.result c.from_residual.ensures.1 in
     rw (p.1, p.2) (ends_by _ _ (Err c.in_err-found.field-0.0) s
-    (asked_of (remaining (seen_by main m)) (ended done) c.args.at s x c.module_version-of.ensures.value ∙ ap (λ b. answered (ended done) c.args.at s (narrowed (off_main main) b)) a)
+    (asked_of (remaining (seen_by main m)) (ended done) c.args.at s x there ∙ ap (λ b. answered (ended done) c.args.at s (narrowed (off_main main) b)) a)
     (ends_fault c.args.at (fault_of fault) c.in_err-found.field-0.0 s (sheet_short c.args.sheet.now) refused))
 
 pub returns-clause-value : goal.returns-clause-value
@@ -40,10 +44,11 @@ returns-clause-value g c =
     let m = g.S.Source.meaning c.args.source.now in
     let main = path_bytes c.args.main.now in
     let s = sheet_of c.args.sheet.now in
-    let x = names_of c.module_version-of.result in
+    let x = names_of c.unwrap-of.result in
+    let there = given_there s c.args.at c.module_version.result c.unwrap-of.result c.module_version.ensures.value c.unwrap-of.ensures in
     let all : 64 ≤ length (replicate 64 c.blank-rows.result) = omega (arith, length-replicate 64 c.blank-rows.result) in
     let told = ap answer_of (sym (was_ok _ c.requirements.result c.map_err.result c.map_err.ensures.cases c.in_ok-found.found c.in_ok-found.was)) ∙ c.requirements.ensures.value in
     let a = found_told row_names blank (length (replicate 64 c.blank-rows.result)) c.in_ok-found.found.count (m.requirements x) c.requirements.new.rows all (told, c.requirements.ensures.items) in
     ends_by _ _ c.write_all.result (sheet_of c.write_all.new.self)
-    (asked_of (remaining (seen_by main m)) (ended done) c.args.at s x c.module_version-of.ensures.value ∙ ap (λ b. answered (ended done) c.args.at s (narrowed (off_main main) b)) a)
+    (asked_of (remaining (seen_by main m)) (ended done) c.args.at s x there ∙ ap (λ b. answered (ended done) c.args.at s (narrowed (off_main main) b)) a)
     c.write_all.ensures.value

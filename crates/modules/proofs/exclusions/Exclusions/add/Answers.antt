@@ -4,13 +4,14 @@ use Rattle.rules.specs.Rows.{own}
 use Rattle.rules.specs.Tables.{keep}
 use Rattle.rules.proofs.Tables.{map_entered}
 use Rattle.modules.specs.Rows.{row_names, row_order}
+use Rattle.ordered.specs.Held.{held}
 use Rattle.modules.proofs.Kept.{same_exclusions}
 use Rattle.modules.proofs.Lifted.{admitted_named}
 use Rattle.modules.proofs.exclusions.Exclusions.add.Goals as goal
 
 pub returns : goal.returns
 returns c =
-    let t = c.args.self.now.table in
+    let t = held c.args.self.now.table in
     let x = c.args.row in
     record {
       value = admitted_named own row_order own module_order row_names 32 x (row_names x) (λ y. refl) t c.insert.result c.insert.ensures.value;

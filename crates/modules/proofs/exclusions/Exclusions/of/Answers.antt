@@ -1,6 +1,6 @@
 use Rattle.std.proofs.Common.{◌≡◌, List, [], map, refl, ap, ◌∙◌}
 use Rattle.std.specs.Option.{option_map}
-use Rattle.ordered.specs.Held.{fitting}
+use Rattle.ordered.specs.Held.{held, fitting}
 use Rattle.rules.specs.Names.{module_order}
 use Rattle.rules.specs.Rows.{own, exclusion_table}
 use Rattle.rules.specs.Tables.{joined}
@@ -18,7 +18,7 @@ named t u e =
 
 pub returns-in_err-table : goal.returns-in_err-table
 returns-in_err-table c =
-    rw c.from_residual.ensures (ap (option_map (map row_names)) c.in_err-table.ensures.value ∙ named c.new.result.table c.args.rows.now c.new.ensures)
+    rw c.from_residual.ensures (ap (option_map (map row_names)) c.in_err-table.ensures.value ∙ named (held c.new.result.table) c.args.rows.now c.new.ensures)
 
 pub returns : goal.returns
-returns c = ap (option_map (map row_names)) c.in_ok-table.ensures.value ∙ named c.new.result.table c.args.rows.now c.new.ensures
+returns c = ap (option_map (map row_names)) c.in_ok-table.ensures.value ∙ named (held c.new.result.table) c.args.rows.now c.new.ensures

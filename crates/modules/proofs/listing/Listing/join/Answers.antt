@@ -1,6 +1,6 @@
 use Rattle.std.proofs.Common.{◌≡◌, List, map, refl, ap, ◌∙◌}
 use Rattle.std.specs.Option.{option_map}
-use Rattle.ordered.specs.Held.{fitting}
+use Rattle.ordered.specs.Held.{held, fitting}
 use Rattle.rules.specs.Versions.{version_order}
 use Rattle.rules.specs.Rows.{own, joined_versions}
 use Rattle.rules.specs.Tables.{joined}
@@ -17,10 +17,10 @@ named t u =
 
 pub returns-in_err-table : goal.returns-in_err-table
 returns-in_err-table c =
-    let t = c.args.self.now.table in
+    let t = held c.args.self.now.table in
     rw c.from_residual.ensures (ap (option_map (map plain_version_bytes)) c.in_err-table.ensures.value ∙ named t c.args.other.now)
 
 pub returns : goal.returns
 returns c =
-    let t = c.args.self.now.table in
+    let t = held c.args.self.now.table in
     ap (option_map (map plain_version_bytes)) c.in_ok-table.ensures.value ∙ named t c.args.other.now

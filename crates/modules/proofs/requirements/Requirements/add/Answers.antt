@@ -5,13 +5,14 @@ use Rattle.rules.specs.Rows.{path_of, higher, row_of}
 use Rattle.rules.specs.Tables.{keep}
 use Rattle.rules.proofs.Tables.{map_entered}
 use Rattle.modules.specs.Rows.{row_names, row_path}
+use Rattle.ordered.specs.Held.{held}
 use Rattle.modules.proofs.Kept.{same_requirements}
 use Rattle.modules.proofs.Lifted.{admitted_named, accepted_absent, entered_fresh}
 use Rattle.modules.proofs.requirements.Requirements.add.Goals as goal
 
 pub returns : goal.returns
 returns c =
-    let t = c.args.self.now.table in
+    let t = held c.args.self.now.table in
     let x = c.args.row in
     let p = plain_path_bytes x.path in
     let v = admitted_named row_path plain_path_order path_of path_order row_names 256 x.path p (λ y. refl) t c.insert.result c.insert.ensures.value in

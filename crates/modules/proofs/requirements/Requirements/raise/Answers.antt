@@ -6,6 +6,7 @@ use Rattle.ordered.specs.Places.{sought}
 use Rattle.rules.specs.Versions.{version_order}
 use Rattle.modules.specs.Rows.{row_names, row_path}
 use Rattle.modules.specs.declared.rows.Row.{Row}
+use Rattle.ordered.specs.Held.{held}
 use Rattle.modules.proofs.Raises.{without_reason, path_there, told_upto, told_higher, set_higher, told_new}
 use Rattle.modules.proofs.requirements.Requirements.raise.Goals as goal
 
@@ -16,7 +17,7 @@ read slice t row i d b e q h = h ∙ ap (λ (y : Row). is_le (version_order (row
 
 pub returns-then-is_upto : goal.returns-then-is_upto
 returns-then-is_upto c =
-    let t = c.args.self.now.table in
+    let t = held c.args.self.now.table in
     let row = c.args.row in
     let i = c.in-Ok.at in
     let d = c.index-rows-at.result in
@@ -31,7 +32,7 @@ returns-then-is_upto c =
 
 pub lift-requires : goal.lift-requires
 lift-requires c =
-    let t = c.args.self.now.table in
+    let t = held c.args.self.now.table in
     let row = c.args.row in
     let i = c.in-Ok.at in
     let s = c.as_slice-rows.ensures.value in
@@ -41,7 +42,7 @@ lift-requires c =
 
 pub returns-clause-value : goal.returns-clause-value
 returns-clause-value c =
-    let t = c.args.self.now.table in
+    let t = held c.args.self.now.table in
     let row = c.args.row in
     let i = c.in-Ok.at in
     let d = c.index-rows-at.result in
@@ -52,7 +53,7 @@ returns-clause-value c =
 
 pub returns-clause-after : goal.returns-clause-after
 returns-clause-after c =
-    let t = c.args.self.now.table in
+    let t = held c.args.self.now.table in
     let row = c.args.row in
     let i = c.in-Ok.at in
     let d = c.index-rows-at.result in
@@ -63,7 +64,7 @@ returns-clause-after c =
 
 pub returns-in_default-clause-value : goal.returns-in_default-clause-value
 returns-in_default-clause-value c =
-    let t = c.args.self.now.table in
+    let t = held c.args.self.now.table in
     let row = c.args.row in
     let i = c.in_default.field-0 in
     let e : Err i ≡ sought row_path plain_path_order row.path t = c.in_default.ensures.value ∙ ap (sought row_path plain_path_order row.path) c.as_slice-rows.ensures.value in

@@ -1,31 +1,21 @@
--- The row at the place is well formed. Assumes nothing.
-use Rattle.std.proofs.Common.{◌≡◌, ◌<◌, ◌≤◌, true, List, length, get_or, Some, sym, ap, ◌∙◌, subst, arith}
-use Rattle.std.proofs.lemmas.List.{length-map}
-use Rattle.rules.specs.Names.{is_module_version}
-use Rattle.modules.specs.Rows.{row_names}
+-- What stands at the place is checked. Assumes nothing.
+use Rattle.std.proofs.Common.{◌≡◌, ◌<◌, ℕ, List, length, get_or, Some, sym, refl, ap, ◌∙◌, arith}
+use Rattle.std.specs.List.{slice_get}
+use Rattle.std.proofs.lemmas.Option.{slice_get_read}
 use Rattle.walks.specs.declared.place.Place.{Place}
 use Rattle.walks.specs.Fillings.{items_of}
-use Rattle.walks.specs.Places.{place_of}
-use Rattle.walks.proofs.Fillings.{place_read, row_read}
+use Rattle.walks.proofs.Fillings.{checked_there}
 use Rattle.walks.proofs.sheet.Filling+Place.module_version.Goals as goal
 
-pub checked-requires : goal.checked-requires
-checked-requires c =
-    let ps = items_of c.args.self.now in
-    let at = c.args.at in
-    let d = c.index-as_slice-at.result in
-    let one : 1 ≤ at = omega (arith, c.requires.place) in
-    let within : at < length ps = omega (arith, c.requires.place, length-map ps place_of) in
-    subst (λ (qs : List Place). is_module_version (row_names (get_or qs at d).row) ≡ true) (sym c.as_slice.ensures.value)
-    (c.requires.formed at (place_of (get_or ps at d)) one (place_read ps at d within))
+read_at : (ps : List Place) (i at : ℕ) (p : Place) → i < length ps → p ≡ get_or ps i p → at ≡ i → slice_get ps at ≡ Some p
+read_at ps i at p h g e = ap (slice_get ps) e ∙ slice_get_read ps (length ps) i p refl h g
 
 pub returns : goal.returns
 returns c =
-    let ps = items_of c.args.self.now in
-    let at = c.args.at in
-    let d = c.index-as_slice-at.result in
-    let within : at < length ps = omega (arith, c.requires.place, length-map ps place_of) in
+    let ps = c.as_slice.result.now in
+    let p = c.in_ok-get.field-0.now in
+    let found = c.in_ok-get.ensures.lookup in
+    let there : slice_get ps c.args.at ≡ Some p = read_at ps _ c.args.at p found.3.0 found.1 (omega arith) in
     record {
-      value = row_read ps at d within
-          ∙ ap Some (sym (c.checked.ensures ∙ ap (λ (qs : List Place). row_names (get_or qs at d).row) c.as_slice.ensures.value));
+      value = checked_there (items_of c.args.self.now) c.args.at p (ap (λ (qs : List Place). slice_get qs c.args.at) (sym c.as_slice.ensures.value) ∙ there) c.check.result c.check.ensures;
     }
