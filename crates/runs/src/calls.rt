@@ -7,6 +7,8 @@ use modules::rows::ModuleVersion;
 use names::path::Path;
 use walks::counts::Counts;
 
+pub mod parts;
+
 // A part of a text: the bytes from `start` to before `end`. So loads can read from one text that is lent to all of them.
 #[derive(Clone, Copy)]
 pub struct Part {

@@ -5,7 +5,7 @@ use buffers::buffer::{Buffer, Kind};
 use causes::cause::Cause;
 use causes::refusal::Refusal;
 use modules::rows::{ModuleVersion, Row};
-use runs::calls::{Call, Reply};
+use runs::calls::{Call, Part, Reply};
 use runs::run::run;
 use source::fault::{Fault, Found};
 use source::questions::Source;
@@ -42,7 +42,7 @@ fn without_listings(rt: HostRuntime) -> Result<(), Fail> {
     let rain = module_version(b"rain", b"v1.0.0")?;
     let calls = [
         Call::List,
-        Call::Load(&UPPER[..54]),
+        Part { start: 0, end: 54 }.load(UPPER),
         Call::List,
         Call::Exclude(trunk),
         Call::Exclude(trunk),

@@ -19,7 +19,7 @@ impl<T: Copy, const N: usize> Table<T, N> {
         }
     }
 
-    // Kept: `Copy` wants a view that gives the places behind the items back, and `clone` may fail.
+    // Kept: `clone` may fail, and by `Copy` a table would be copied wherever it is passed.
     pub fn copy(&self) -> Table<T, N>
         ensures value { result ≡ self.now }
         ensures fits { length (held result) ≤ N }
