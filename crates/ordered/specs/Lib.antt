@@ -1,4 +1,3 @@
 pub mod Places
-pub mod Seen
 pub mod Held
 pub mod Ascents

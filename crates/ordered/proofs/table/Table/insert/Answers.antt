@@ -1,5 +1,5 @@
 -- The item is written at the place where it would stand, unless one of its key is there or there is no room. Assumes nothing.
-use Rattle.std.proofs.Common.{◌≡◌, ◌+◌, Bool, true, false, ltb, List, length, take, None, Err, sym, ap, ◌∙◌, ap₂, arith, refl}
+use Rattle.std.proofs.Common.{◌≡◌, Bool, true, false, ltb, List, length, take, None, Err, sym, ap, ◌∙◌, ap₂, arith, refl}
 use Rattle.std.specs.Result.{result_ok}
 use Rattle.std.specs.List.{insert}
 use Rattle.std.proofs.lemmas.List.{length-take-le}
@@ -30,24 +30,24 @@ missed : (g : given.Over) (c : In-Err g) → Err c.in-Err.at ≡ sought g.T.Keye
 missed g c = c.in-Err.ensures.value ∙ ap (λ k. sought g.T.Keyed.keyed g.K.Ordered.order k (held c.args.self.now)) c.key.ensures
 
 -- the count is that of the items
-long : (g : given.Over) (c : In-Err g) → length (held c.args.self.now) ≡ c.self.inside.count
-long g c = ap length (sym (ap held c.self.view_is)) ∙ length-take-le c.self.inside.count c.self.inside.items (omega arith)
+long : (g : given.Over) (c : In-Err g) → length (held c.args.self.now) ≡ c.args.self.now.count
+long g c = ap length (sym refl) ∙ length-take-le c.args.self.now.count c.args.self.now.items (omega arith)
 
 -- what is answered where none has, by whether there is room
-answered : (g : given.Over) (c : In-Err g) (room : Bool) → ltb c.self.inside.count g.row.N ≡ room
+answered : (g : given.Over) (c : In-Err g) (room : Bool) → ltb c.args.self.now.count g.row.N ≡ room
     → admitted {A = g.row.T.Denot} None room ≡ admitted (lookup g.T.Keyed.keyed g.K.Ordered.order (g.T.Keyed.keyed c.args.item) (held c.args.self.now)) (ltb (length (held c.args.self.now)) g.row.N)
 answered g c room e =
     ap₂ admitted (missed_looked g.T.Keyed.keyed g.K.Ordered.order (g.T.Keyed.keyed c.args.item) (held c.args.self.now) (ap result_ok (missed g c))) (sym (ap (λ n. ltb n g.row.N) (long g c) ∙ e))
 
 pub returns-then-self-clause-value : goal.returns-then-self-clause-value
-returns-then-self-clause-value g c = answered g (goal.at.returns-then-self-clause-value g c).In-Err false (le-ltb c.self.inside.count g.row.N (omega arith))
+returns-then-self-clause-value g c = answered g (goal.at.returns-then-self-clause-value g c).In-Err false (le-ltb c.args.self.now.count g.row.N (omega arith))
 
 pub returns-clause-value : goal.returns-clause-value
-returns-clause-value g c = answered g (goal.at.returns-clause-value g c).In-Err true (lt-ltb c.self.inside.count g.row.N (omega arith))
+returns-clause-value g c = answered g (goal.at.returns-clause-value g c).In-Err true (lt-ltb c.args.self.now.count g.row.N (omega arith))
 
-put : (g : given.Over) (c : In-Err g) (left : List g.row.T.Denot) → left ≡ insert (take c.self.inside.count c.self.inside.items) c.in-Err.at c.args.item → left ≡ entered g.T.Keyed.keyed g.K.Ordered.order keep c.args.item (held c.args.self.now)
+put : (g : given.Over) (c : In-Err g) (left : List g.row.T.Denot) → left ≡ insert (take c.args.self.now.count c.args.self.now.items) c.in-Err.at c.args.item → left ≡ entered g.T.Keyed.keyed g.K.Ordered.order keep c.args.item (held c.args.self.now)
 put g c left is =
-    is ∙ ap (λ xs. insert xs c.in-Err.at c.args.item) (ap held c.self.view_is)
+    is ∙ ap (λ xs. insert xs c.in-Err.at c.args.item) refl
     ∙ missed_put g.T.Keyed.keyed g.K.Ordered.order c.args.item (held c.args.self.now) c.in-Err.at (missed g c)
 
 pub returns-clause-after : goal.returns-clause-after

@@ -1,5 +1,5 @@
 -- The item is written at the place of its key. Assumes nothing.
-use Rattle.std.proofs.Common.{◌≡◌, Some, take, set, ap, ◌∙◌}
+use Rattle.std.proofs.Common.{refl, ◌≡◌, Some, take, set, ap, ◌∙◌}
 use Rattle.std.specs.Result.{result_ok}
 use Rattle.rules.specs.Orders.{Laws}
 use Rattle.rules.specs.Tables.{entered}
@@ -20,7 +20,7 @@ returns-in_err-at-clause-value g c =
     let by_key = ap (λ k. result_ok (sought g.T.Keyed.keyed g.K.Ordered.order k (held c.args.self.now))) c.key.ensures in
     rw c.from_residual.ensures (missed_looked g.T.Keyed.keyed g.K.Ordered.order (g.T.Keyed.keyed c.args.item) (held c.args.self.now) (c.in_err-at.ensures.value ∙ ap result_ok c.place.ensures.value ∙ by_key))
 
-found : (g : given.Over) (c : goal.After-index-self-at-2 g) → Some c.in_ok-at.at ≡ result_ok (sought g.T.Keyed.keyed g.K.Ordered.order (g.T.Keyed.keyed c.args.item) (held c.args.self.now))
+found : (g : given.Over) (c : goal.After-self-1 g) → Some c.in_ok-at.at ≡ result_ok (sought g.T.Keyed.keyed g.K.Ordered.order (g.T.Keyed.keyed c.args.item) (held c.args.self.now))
 found g c =
     c.in_ok-at.ensures.value ∙ ap result_ok c.place.ensures.value
     ∙ ap (λ k. result_ok (sought g.T.Keyed.keyed g.K.Ordered.order k (held c.args.self.now))) c.key.ensures
@@ -28,12 +28,12 @@ found g c =
 pub returns-clause-value : goal.returns-clause-value
 returns-clause-value g c =
     found_read g.T.Keyed.keyed g.K.Ordered.order (g.T.Keyed.keyed c.args.item) (held c.args.self.now) c.in_ok-at.at (found g c)
-    c.self.inside.items c.self.inside.count (ap held c.self.view_is) c.index-self-at.result
+    c.args.self.now.items c.args.self.now.count refl c.index-self-at.result
 
-put : (g : given.Over) (c : goal.After-index-self-at-2 g) → take c.self.inside.count (set c.self.inside.items c.in_ok-at.at c.args.item) ≡ entered g.T.Keyed.keyed g.K.Ordered.order give c.args.item (held c.args.self.now)
+put : (g : given.Over) (c : goal.After-self-1 g) → take c.args.self.now.count (set c.args.self.now.items c.in_ok-at.at c.args.item) ≡ entered g.T.Keyed.keyed g.K.Ordered.order give c.args.item (held c.args.self.now)
 put g c =
     found_written g.T.Keyed.keyed g.K.Ordered.order c.args.item (held c.args.self.now) c.in_ok-at.at (found g c)
-    c.self.inside.items c.self.inside.count (ap held c.self.view_is)
+    c.args.self.now.items c.args.self.now.count refl
 
 pub returns-clause-after : goal.returns-clause-after
 returns-clause-after g c = λ _. put g c
