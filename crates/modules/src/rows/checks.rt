@@ -38,7 +38,7 @@ impl Row {
         Some(ModuleVersion { path, version })
     }
 
-    // The module version that this is, where both texts are well formed, or else the one that stands where there is none.
+    // The module version that this is, where both texts are well formed. Of another row nothing is said of the answer.
     pub fn checked(&self) -> ModuleVersion
         ensures { is_module_version (row_names self.now) ≡ true → names_of result ≡ row_names self.now }
     {
