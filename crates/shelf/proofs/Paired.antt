@@ -64,6 +64,11 @@ one_version p q qs = go (eqb q.tag tag_M)
     go true = refl
     go false = refl
 
+-- the versions that pairs tell are those of the records
+pub versions_held : (p : Bytes) (qs : List Pair) → versions_in head_version p qs ≡ versions_in record_version p (records qs)
+versions_held p [] = refl
+versions_held p (q ∷ qs) = ap (with_version (head_version p q)) (versions_held p qs) ∙ sym (one_version p q qs)
+
 -- ---- rows
 
 module _ (bs : Bytes) where
@@ -158,13 +163,19 @@ row_is_none false y e h = true≢false (sym h)
 
 -- ---- versions of pairs that are well formed
 
-held_whole : (p : Bytes) (q : Pair) → is_formed q ≡ true → held_version p q ≡ head_version p q
+-- such a pair holds the version that it tells
+pub held_whole : (p : Bytes) (q : Pair) → is_formed q ≡ true → held_version p q ≡ head_version p q
 held_whole p q e = go (eqb q.tag tag_M && bytes_eq q.first p)
   where
     go : (b : Bool) → option_and_then (λ (v : Bytes). then_some (leb (length v) 48) v) (then_some b q.second) ≡ then_some b q.second
     go true = ap (λ s. then_some s q.second) (and_parts (leb (length q.first) 48) (leb (length q.second) 48) (names_short q.first q.second e)).1
     go false = refl
 
-pub versions_held : (p : Bytes) (qs : List Pair) → AllByRecursion (λ q. is_formed q ≡ true) qs → versions_in held_version p qs ≡ versions_in record_version p (records qs)
-versions_held p [] f = refl
-versions_held p (q ∷ qs) (f, fs) = ap₂ with_version (held_whole p q f) (versions_held p qs fs) ∙ sym (one_version p q qs)
+-- and so do all of them
+pub all_whole : (p : Bytes) (qs : List Pair) → AllByRecursion (λ q. is_formed q ≡ true) qs → versions_in held_version p qs ≡ versions_in head_version p qs
+all_whole p [] f = refl
+all_whole p (q ∷ qs) (f, fs) = ap₂ with_version (held_whole p q f) (all_whole p qs fs)
+
+-- which are the versions of the records
+pub whole_versions_held : (p : Bytes) (qs : List Pair) → AllByRecursion (λ q. is_formed q ≡ true) qs → versions_in held_version p qs ≡ versions_in record_version p (records qs)
+whole_versions_held p qs f = all_whole p qs f ∙ versions_held p qs

@@ -12,7 +12,7 @@ use Rattle.bottoms.specs.Items.{versions_in, version_table, listing_answer}
 use Rattle.bottoms.proofs.Entering.{answers_listing}
 use Rattle.shelf.specs.Laws.{shelf_formed}
 use Rattle.shelf.specs.Records.{records, record_version, shelf_meaning}
-use Rattle.shelf.proofs.Paired.{versions_held}
+use Rattle.shelf.proofs.Paired.{whole_versions_held}
 use Rattle.shelf.proofs.questions.ShelfListingSource.versions.Goals as goal
 
 pub returns : goal.returns
@@ -20,7 +20,7 @@ returns c =
     let n = length c.args.versions.now in
     let table : Bytes → List Bytes = λ p. version_table (versions_in record_version p (records (pairs_in c.args.self.now.bytes.now))) in
     let is : listing_answer (option_map listing_bytes c.list_versions.result) ≡ (shelf_meaning c.args.self.now.bytes.now).listing (path_bytes c.args.of.now)
-    = ap listing_answer (c.list_versions.ensures.value ∙ ap (λ vs. fitting 64 (version_table vs)) (versions_held _ (pairs_in c.args.self.now.bytes.now) (shelf_formed c.args.self.now.bytes.now c.args.self.now.ok)) ∙ ap (λ p. fitting 64 (table p)) c.as_bytes.ensures.value) ∙ sym (answers_listing (table (path_bytes c.args.of.now))) in
+    = ap listing_answer (c.list_versions.ensures.value ∙ ap (λ vs. fitting 64 (version_table vs)) (whole_versions_held _ (pairs_in c.args.self.now.bytes.now) (shelf_formed c.args.self.now.bytes.now c.args.self.now.ok)) ∙ ap (λ p. fitting 64 (table p)) c.as_bytes.ensures.value) ∙ sym (answers_listing (table (path_bytes c.args.of.now))) in
     record {
       same = refl;
       inside = refl;
